@@ -1,0 +1,12 @@
+pub mod Bitsets
+pub mod Sharing
+pub mod Implying
+pub mod Covering
+pub mod Finding
+pub mod Pigeons
+pub mod Reducing
+pub mod Joining
+pub mod Canonical
+pub mod Least
+pub mod Tests
+pub mod Reduced

@@ -1,0 +1,17 @@
+use native.Mathlib.Omega.{arith}
+use lib.Bits.{or-lt}
+use lib.ListN.{getD}
+use mathlib.Core.Path.{refl}
+use borrow.Author.Count.{below-more}
+use Rattle.std.proofs.shelf.Tests.{false≢true}
+use Rattle.clause.proofs.Covering.{implies-either, not-either}
+use Rattle.clause.proofs.implies_either.Needs as need
+
+pub returns-then-meets : need.returns-then-meets
+returns-then-meets c = (λ e. absurd (false≢true e), λ imp. absurd (not-either (c .args .first .now) (c .args .a .now) (c .args .b .now) (c .loop-x .x-index) (c .loop-y .y-index) (c .loop-x-test .taken) (c .loop-y-test .taken) (omega arith) (omega arith) (or-lt 16 (getD (c .args .a .now) (c .loop-x .x-index) 0) (getD (c .args .b .now) (c .loop-y .y-index) 0) (omega arith) (omega arith)) (c .if-meets .ensures tt .0 refl) imp))
+
+pub loop-y-again : need.loop-y-again
+loop-y-again c = below-more _ _ (c .loop-y .inv) (or-lt 16 (getD (c .args .a .now) (c .loop-x .x-index) 0) (getD (c .args .b .now) (c .loop-y .y-index) 0) (omega arith) (omega arith), λ m. false≢true (c .if-meets .ensures tt .1 m))
+
+pub returns : need.returns
+returns c = (λ _. implies-either (c .args .first .now) (c .args .a .now) (c .args .b .now) (λ j h. c .loop-x .inv j (omega arith)), λ _. refl)

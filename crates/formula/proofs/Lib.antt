@@ -1,0 +1,3 @@
+pub mod Choosing
+pub mod Gathering
+pub mod Forming

@@ -1,0 +1,4 @@
+pub mod Kept
+pub mod Party
+pub mod Of
+pub mod Forms

@@ -1,0 +1,5 @@
+use Rattle.label.proofs.Tests.{sight-two}
+use Rattle.label.proofs.sight.SightCompare.covered_by_two.Needs as need
+
+pub returns : need.returns
+returns c = sight-two _ _ _ _ (c .both-imply .ensures)

@@ -1,0 +1,15 @@
+ghost use mathlib.Core.Path.{_≡_};
+ghost use Rattle.monitor.specs.State.{view, blank};
+use super::Monitor;
+use crate::tables::Tables;
+
+impl Monitor {
+    /// A monitor whose records are all empty and whose tasks are all closed.
+    pub fn new() -> Monitor
+        ensures { λ r. ⌜ view (r .tables) ≡ blank ⌝ }
+    {
+        Monitor {
+            tables: Tables::new(),
+        }
+    }
+}
