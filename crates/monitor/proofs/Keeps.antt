@@ -9,7 +9,7 @@ use Rattle.std.proofs.shelf.Tests.{leb-true}
 use lib.Dec.{leb}
 use lib.ListN.{getD, set, replicate}
 use Rattle.std.specs.declared.option.Option.the-variants.{Some, None}
-use Rattle.monitor.specs.State.{State, Place, vacant, holds, bounded, AllBounded, withRecord, withTask, blank}
+use Rattle.monitor.specs.State.{State, Place, vacant, holds, isFigure, bounded, AllBounded, withRecord, withTask, blank}
 use Rattle.monitor.specs.Step.{isManner, worked}
 
 bounded-blank : (n : ℕ) → AllBounded (replicate n vacant)
@@ -39,5 +39,5 @@ sound-task s t i p e b rs ts = subst Sound (sym e) (rs, (bounded-set (t .tasks) 
 worked-le : (m a b : ℕ) → a ≤ 999999999 → worked m a b ≤ 999999999
 worked-le m a b h = grind (arith, tells)
 
-pub work-keeps : (m a b n : ℕ) → leb a 999999999 ≡ true → Some n ≡ cond (isManner m) (Some (worked m a b)) None → leb n 999999999 ≡ true
+pub work-keeps : (m a b n : ℕ) → isFigure a ≡ true → Some n ≡ cond (isManner m) (Some (worked m a b)) None → isFigure n ≡ true
 work-keeps m a b n h e = let k : worked m a b ≤ 999999999 = worked-le m a b (leb-true a 999999999 h) in grind (arith, tells)

@@ -1,5 +1,5 @@
 ghost use Rattle.monitor.specs.State.{view};
-ghost use Rattle.monitor.specs.Fetch.{Fetched, FetchedBounded};
+ghost use Rattle.monitor.specs.Fetch.{Fetched, Sound};
 use super::Monitor;
 use crate::tables::Held;
 use crate::tables::RECORDS;
@@ -18,7 +18,7 @@ impl Monitor {
     /// The task and the record that a call works on.
     pub(super) fn fetch(&self, task: u64, record: u64) -> Result<Pair, Refusal>
         ensures found { λ r. ⌜ Fetched (view (now (self .entry) .tables)) task «record» r ⌝ }
-        ensures bounded { λ r. ⌜ FetchedBounded r ⌝ }
+        ensures sound { λ r. ⌜ Sound task «record» r ⌝ }
     {
         if task >= TASKS as u64 || record >= RECORDS as u64 {
             return Err(Refusal::NoSuchNumber);

@@ -1,0 +1,9 @@
+use mathlib.Core.Path.{_≡_, refl, ap, sym, _∙_}
+use native.Mathlib.Omega.{arith}
+use Rattle.std.proofs.shelf.Tests.{le-leb}
+use Rattle.monitor.specs.State.{view, bounded}
+use Rattle.monitor.proofs.Keeps.{sound-blank}
+use Rattle.monitor.proofs.monitor.Monitor.new.Needs as need
+
+pub ghost-result : need.ghost-result
+ghost-result c = sound-blank (view (c .new .result)) (c .new .ensures)
