@@ -1,8 +1,10 @@
 //! What is answered: a call that is done, a figure, or the refusal of one numbered question.
 mod convert;
 mod number;
+mod text;
 
 pub use convert::RefusalFromDenial;
+pub use text::AnswerDisplay;
 
 /// Why a key does not grant a request.
 #[derive(Clone, Copy)]

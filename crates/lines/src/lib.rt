@@ -1,0 +1,9 @@
+//! Call lines: what a line says, and what the monitor answers to it.
+mod answering;
+mod call;
+mod forms;
+mod words_left;
+
+pub use answering::obey;
+pub use call::Call;
+pub use forms::parse;

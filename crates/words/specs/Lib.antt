@@ -1,0 +1,5 @@
+pub mod Hex
+pub mod Decimal
+pub mod Parted
+pub mod Formulas
+pub mod Gathers
