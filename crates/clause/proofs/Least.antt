@@ -58,3 +58,27 @@ none-least p (suc n) h =
     let e : p n ≡ false = h n a in
     let i : least p n ≡ None = none-least p n (λ k b. h k (omega arith)) in
     rw (i, e) refl
+
+-- what is found: p holds there, and nowhere below
+pub record Found (p : ℕ → Bool) (n g : ℕ) : Type 0 where
+  pub below : g < n
+  pub holds : p g ≡ true
+  pub first : (k : ℕ) → k < g → p k ≡ false
+
+never : (g : ℕ) → None ≡ Some g → ⊥
+never g e = let z : _≡_ {A = ℕ} 0 1 = cc in omega arith
+
+found-next : (p : ℕ → Bool) (n g : ℕ) (b : Bool) (o : Option ℕ) → p n ≡ b → least p n ≡ o → ((x : ℕ) → o ≡ Some x → Found p n x) → next-least b n o ≡ Some g → Found p (suc n) g
+found-next p n g b (Some x) e l ih s =
+    let same : x ≡ g = cc in
+    let f = ih x refl in
+    record { below = omega (arith, f .below, same); holds = subst (λ (k : ℕ). p k ≡ true) same (f .holds); first = λ k h. f .first k (omega (arith, h, same)) }
+found-next p n g true None e l ih s =
+    let same : n ≡ g = cc in
+    record { below = omega (arith, same); holds = subst (λ (k : ℕ). p k ≡ true) same e; first = λ k h. least-none p n l k (omega (arith, h, same)) }
+found-next p n g false None e l ih s = absurd (never g s)
+
+pub least-found : (p : ℕ → Bool) (n g : ℕ) → least p n ≡ Some g → Found p n g
+unfolding least
+least-found p zero g e = absurd (never g e)
+least-found p (suc n) g e = found-next p n g (p n) (least p n) refl refl (λ x q. least-found p n x q) e

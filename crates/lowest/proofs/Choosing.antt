@@ -10,17 +10,17 @@ use borrow.Author.Count.{below-more}
 use Rattle.std.specs.declared.option.Option.{Option}
 use Rattle.std.specs.declared.option.Option.the-variants.{Some, None}
 use Rattle.std.proofs.shelf.Elements.{all-getD}
-use Rattle.std.proofs.shelf.Tests.{cases-order}
+use Rattle.std.proofs.shelf.Tests.{cases-order, both-ways, or-cases, or-left, or-right}
 use Rattle.clause.specs.Meaning.{Shares, Meets}
 use Rattle.clause.specs.Parts.{Part}
 use Rattle.clause.proofs.Bitsets.{apart, wider}
 use Rattle.clause.proofs.Covering.{found, beside, grows}
 use Rattle.clause.specs.Groups.{met, least, lowest, earlier}
-use Rattle.clause.proofs.Least.{least-at, none-least}
+use Rattle.clause.proofs.Least.{least-at, none-least, least-none, least-found}
 use Rattle.clause.proofs.Tests.{not-true, met-decides}
 use Rattle.std.specs.Orderings.{Decides}
 use Rattle.std.proofs.shelf.Ways.{decides-and, decides-not, decides-like}
-use mathlib.Core.Bool.{Bool, true, not, _&&_}
+use mathlib.Core.Bool.{Bool, true, not, _&&_, _||_}
 use Rattle.lowest.specs.First.{Lowest, First, Fitting, Missing}
 
 -- a formula's meaning carries over
@@ -106,3 +106,17 @@ missing-decides missed needs more g =
     decides-like ((met needs g && met more g) && not (met missed g))
     (λ m. record { meets = m .0; misses = m .1 }) (λ m. (m .meets, m .misses))
     (decides-and (met needs g && met more g) (not (met missed g)) (decides-and (met needs g) (met more g) (met-decides needs g) (met-decides more g)) (decides-not (met missed g) (met-decides missed g)))
+
+found-first : (p : ℕ → Bool) (o : Option ℕ) → lowest p ≡ o → First (λ g. p g ≡ true) o
+found-first p None e = λ g l h. both-ways (p g) (least-none p 65536 e g l) h
+found-first p (Some x) e =
+    let f = least-found p 65536 x e in
+    record { parties = f .below; holds = f .holds; least = λ k l h. both-ways (p k) (f .first k l) h }
+
+-- the earlier of the lowest of two kinds is the lowest of both
+pub earlier-is : (p q s : ℕ → Bool) → ((g : ℕ) → s g ≡ (p g || q g)) → earlier (lowest p) (lowest q) ≡ lowest s
+earlier-is p q s e =
+    first-is s (λ g. (p g ≡ true) ⊎ (q g ≡ true))
+    (λ g. (λ h. or-cases (p g) (q g) (sym (e g) ∙ h), λ h. e g ∙ elim h [ inl a ↦ or-left (p g) (q g) a | inr b ↦ or-right (p g) (q g) b ]))
+    (earlier (lowest p) (lowest q))
+    (first-either (λ g. p g ≡ true) (λ g. q g ≡ true) (lowest p) (lowest q) (found-first p (lowest p) refl) (found-first q (lowest q) refl))

@@ -1,0 +1,2 @@
+pub mod Steering
+pub mod Granting
