@@ -5,5 +5,4 @@ ghost use Rattle.key.specs.Laws.{Key-laws, Over-robust-law};
 pub fn key_laws()
     ensures keys { λ _. ⌜ Key-laws ⌝ }
     ensures over { λ _. ⌜ Over-robust-law ⌝ }
-{
-}
+{}

@@ -7,8 +7,8 @@ use Rattle.std.specs.declared.option.Option.the-variants.{Some, None}
 use Rattle.answer.specs.Told.{Told, granted, refused}
 use Rattle.formula.specs.Forms.{reduces}
 use Rattle.label.specs.Labels.{Marks}
-use Rattle.monitor.specs.State.{State}
-use Rattle.monitor.specs.Step.{Ruled, refuse, entering, opening, closing, taking, putting, dropping, showing}
+use Rattle.rules.specs.State.{State}
+use Rattle.rules.specs.Step.{Ruled, refuse, entering, opening, closing, taking, putting, dropping, showing}
 use Rattle.lines.specs.Forms.{Form, enters, opens, closes, takes, puts, drops, shows, formOf}
 
 -- a formula that is refused refuses the line

@@ -1,6 +1,6 @@
 ghost use mathlib.Core.Path.{_≡_};
 ghost use Rattle.answer.specs.Told.{told, says};
-ghost use Rattle.monitor.specs.State.{view};
+ghost use Rattle.monitor.specs.View.{view};
 ghost use Rattle.lines.specs.Left.{say};
 ghost use Rattle.lines.specs.Obey.{obeying, lineRuled, values};
 use crate::call::Call;

@@ -9,8 +9,8 @@ use Rattle.std.proofs.shelf.Tests.{leb-true}
 use lib.Dec.{leb}
 use lib.ListN.{getD, set, replicate}
 use Rattle.std.specs.declared.option.Option.the-variants.{Some, None}
-use Rattle.monitor.specs.State.{State, Place, vacant, holds, isFigure, bounded, AllBounded, withRecord, withTask, blank}
-use Rattle.monitor.specs.Step.{isManner, worked}
+use Rattle.rules.specs.State.{State, Place, vacant, holds, isFigure, bounded, AllBounded, withRecord, withTask, blank}
+use Rattle.rules.specs.Step.{isManner, worked}
 
 bounded-blank : (n : ℕ) → AllBounded (replicate n vacant)
 bounded-blank zero i = refl

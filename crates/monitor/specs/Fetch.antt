@@ -9,8 +9,8 @@ use Rattle.answer.specs.declared.Answer.the-variants.{Refused}
 use Rattle.answer.specs.Told.{told}
 use Rattle.label.specs.Labels.{Marks, labelled}
 use Rattle.monitor.specs.declared.monitor.fetch.Pair.{Pair}
-use Rattle.monitor.specs.State.{State, isFigure}
-use Rattle.monitor.specs.Step.{Ruled, onBoth}
+use Rattle.rules.specs.State.{State, isFigure}
+use Rattle.rules.specs.Step.{Ruled, onBoth}
 
 -- whatever a call does with the two, it does so with these, or is refused so
 abbrev pub Fetched : State → ℕ → ℕ → Result Pair Refusal → Type 0

@@ -1,3 +1,2 @@
-pub mod State
-pub mod Step
+pub mod View
 pub mod Fetch

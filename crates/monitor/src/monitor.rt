@@ -5,7 +5,8 @@ mod show;
 mod tasks;
 mod work;
 
-ghost use Rattle.monitor.specs.State.{view, AllBounded};
+ghost use Rattle.rules.specs.State.{AllBounded};
+ghost use Rattle.monitor.specs.View.{view};
 use crate::tables::Tables;
 
 /// The monitor. Every figure that it holds is at most 999,999,999 cents.

@@ -1,6 +1,7 @@
 ghost use mathlib.Core.Path.{_≡_};
 ghost use Prim.Native.Nat.{_<_};
-ghost use Rattle.monitor.specs.State.{view, blank, placeOf, recordAt, withRecord, taskAt, withTask};
+ghost use Rattle.rules.specs.State.{blank, recordAt, withRecord, taskAt, withTask};
+ghost use Rattle.monitor.specs.View.{view, placeOf};
 use label::Label;
 
 /// How many records there are.

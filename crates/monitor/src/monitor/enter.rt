@@ -1,8 +1,8 @@
 ghost use mathlib.Core.Path.{_≡_};
 ghost use Rattle.answer.specs.Told.{says, nothing};
 ghost use Rattle.label.specs.Labels.{labelled};
-ghost use Rattle.monitor.specs.State.{view};
-ghost use Rattle.monitor.specs.Step.{entering};
+ghost use Rattle.monitor.specs.View.{view};
+ghost use Rattle.rules.specs.Step.{entering};
 use super::CEILING;
 use super::Monitor;
 use crate::tables::Held;

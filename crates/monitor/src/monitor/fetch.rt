@@ -1,4 +1,4 @@
-ghost use Rattle.monitor.specs.State.{view};
+ghost use Rattle.monitor.specs.View.{view};
 ghost use Rattle.monitor.specs.Fetch.{Fetched, Sound};
 use super::Monitor;
 use crate::tables::Held;

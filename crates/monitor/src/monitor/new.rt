@@ -1,5 +1,6 @@
 ghost use mathlib.Core.Path.{_≡_};
-ghost use Rattle.monitor.specs.State.{view, blank};
+ghost use Rattle.rules.specs.State.{blank};
+ghost use Rattle.monitor.specs.View.{view};
 use super::Monitor;
 use crate::tables::Tables;
 

@@ -1,7 +1,7 @@
 ghost use mathlib.Core.Path.{_≡_};
 ghost use Rattle.answer.specs.Told.{says, figure};
-ghost use Rattle.monitor.specs.State.{view};
-ghost use Rattle.monitor.specs.Step.{showing};
+ghost use Rattle.monitor.specs.View.{view};
+ghost use Rattle.rules.specs.Step.{showing};
 use super::Monitor;
 use crate::tables::RECORDS;
 use crate::tables::Slot;

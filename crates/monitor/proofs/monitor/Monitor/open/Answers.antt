@@ -1,7 +1,8 @@
 use mathlib.Core.Path.{_≡_, refl, ap, sym, _∙_}
 use native.Mathlib.Omega.{arith}
 use Rattle.std.proofs.shelf.Tests.{le-leb}
-use Rattle.monitor.specs.State.{view, bounded}
+use Rattle.rules.specs.State.{bounded}
+use Rattle.monitor.specs.View.{view}
 use Rattle.monitor.proofs.Keeps.{sound-task}
 use Rattle.monitor.proofs.monitor.Monitor.open.Needs as need
 

@@ -4,11 +4,16 @@ use mathlib.Core.Bool.{Bool, cond, _&&_}
 use mathlib.Core.List.{List, [], _∷_}
 use Prim.Native.Nat.{ℕ, _+_, _-_, _*_, min}
 use lib.Dec.{ltb, eqb}
-use Rattle.answer.specs.Told.{Told, granted, refused}
-use Rattle.clause.specs.Groups.{met}
+use Rattle.std.specs.declared.result.Result.the-variants.{Ok, Err}
+use Rattle.answer.specs.declared.Refusal.the-variants.{Denied}
+use Rattle.answer.specs.declared.Answer.the-variants.{Refused}
+use Rattle.answer.specs.Told.{Told, granted, refused, told}
 use Rattle.formula.specs.Party.{alone}
-use Rattle.label.specs.Labels.{Marks, sees, handed, flows, join, joinable}
-use Rattle.monitor.specs.State.{State, Place, vacant, holds, recordAt, taskAt, withRecord, withTask, isFigure}
+use Rattle.label.specs.declared.kind.Kind.{Kind}
+use Rattle.label.specs.Labels.{Marks, sees, handed, flows, join, joinable, relabelled}
+use Rattle.key.specs.Requests.{Asked}
+use Rattle.key.specs.Meanings.{Meaning, Verdict}
+use Rattle.rules.specs.State.{State, Place, vacant, holds, recordAt, taskAt, withRecord, withTask, isFigure}
 
 -- what a call leaves and what it answers
 pub record Ruled : Type 0 where
@@ -86,3 +91,17 @@ dropping t k i = onBoth t k i (λ a l n r. asks t 9 (flows l r) (done (withRecor
 -- the figure, to a group that sees the record
 abbrev pub showing : State → ℕ → ℕ → Ruled
 showing t i g = asks t 3 (isRecord i) (onHeld t 6 (recordAt t i) (λ n l. asks t 11 (sees l g) (record { state = t; answer = granted (n ∷ []) })))
+
+-- the request that a release or an endorsement puts to its key
+abbrev pub requestFor : Kind → Marks → List ℕ → Marks → Asked
+requestFor kind held new task = record { kind = kind; held = held; new = new; task = task }
+
+-- the key's own questions come last, in the key's own order
+abbrev pub byKey : State → Verdict → Ruled → Ruled
+byKey t (Ok u) next = next
+byKey t (Err d) next = record { state = t; answer = told (Refused (Denied d)) }
+
+-- a release replaces the record's sight formula, an endorsement its hand formula
+abbrev pub changing : Kind → State → ℕ → ℕ → List ℕ → Meaning → Ruled
+changing kind t k i new key =
+    onBoth t k i (λ a l n r. byKey t (key (requestFor kind r new l)) (done (withRecord t i (holds n (relabelled kind r new)))))

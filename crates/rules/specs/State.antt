@@ -1,14 +1,11 @@
--- The monitor's records and tasks in plain terms.
+-- Records and tasks in plain terms.
 use mathlib.Core.Path.{_≡_}
 use mathlib.Core.Bool.{Bool, true}
-use mathlib.Core.List.{List, map}
+use mathlib.Core.List.{List}
 use Prim.Native.Nat.{ℕ}
 use lib.Dec.{leb}
 use lib.ListN.{getD, set, replicate}
-use Rattle.label.specs.Labels.{Marks, labelled}
-use Rattle.monitor.specs.declared.tables.Tables.{Tables}
-use Rattle.monitor.specs.declared.tables.Slot.{Slot}
-use Rattle.monitor.specs.declared.tables.Slot.the-variants.{Empty, Filled}
+use Rattle.label.specs.Labels.{Marks}
 
 -- an empty record or a closed task; or a figure and its label
 pub data Place : Type 0 where
@@ -18,13 +15,6 @@ pub data Place : Type 0 where
 pub record State : Type 0 where
   pub records : List Place
   pub tasks : List Place
-
-abbrev pub placeOf : Slot → Place
-placeOf Empty = vacant
-placeOf (Filled h) = holds (h .figure) (labelled (h .label))
-
-abbrev pub view : Tables → State
-view t = record { records = map placeOf (t .records); tasks = map placeOf (t .tasks) }
 
 abbrev pub recordAt : State → ℕ → Place
 recordAt t i = getD (t .records) i vacant
@@ -50,5 +40,6 @@ abbrev pub bounded : Place → Bool
 bounded vacant = true
 bounded (holds n l) = isFigure n
 
+-- every figure of the list is one
 abbrev pub AllBounded : List Place → Type 0
 AllBounded ps = (i : ℕ) → bounded (getD ps i vacant) ≡ true
