@@ -1,3 +1,4 @@
+mod change;
 mod enter;
 mod fetch;
 mod new;

@@ -8,3 +8,6 @@ use Rattle.monitor.proofs.monitor.Monitor.new.Needs as need
 
 pub ghost-result : need.ghost-result
 ghost-result c = sound-blank (view (c .new .result)) (c .new .ensures)
+
+pub returns : need.returns
+returns c = record { fresh = c .new .ensures; promise = c .promise .ensures }
