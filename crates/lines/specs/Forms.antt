@@ -3,17 +3,26 @@ use mathlib.Core.List.{List, [], _∷_}
 use mathlib.Core.Bool.{Bool, true, false, cond}
 use Prim.Native.Nat.{ℕ}
 use lib.Chars.{codes}
-use lib.Dec.{leb}
+use lib.Dec.{leb, eqb}
 use lib.ListN.{length}
 use Rattle.std.specs.shelf.Text.{sameBytes}
 use Rattle.std.specs.declared.option.Option.{Option}
 use Rattle.std.specs.declared.option.Option.the-variants.{Some, None}
+use Rattle.key.specs.declared.mode.Mode.{Mode}
 use Rattle.words.specs.Hex.{hexFour}
+use Rattle.words.specs.Modes.{modeOf}
 use Rattle.words.specs.Decimal.{decimal}
 use Rattle.words.specs.Formulas.{formulaOf}
 use Rattle.words.specs.Parted.{parted}
 use Rattle.lines.specs.declared.call.Name.{Name}
-use Rattle.lines.specs.declared.call.Name.the-variants.{Enter, Open, Close, Take, Put, Drop, Show}
+use Rattle.lines.specs.declared.call.Name.the-variants.{Enter, Open, Close, Take, Put, Drop, Show, Release, Endorse}
+
+-- a key as it is written: its plain formula, and the wraps around it
+pub data KeyForm : Type 0 where
+  plains : List ℕ → KeyForm
+  robusts : Mode → KeyForm → KeyForm
+  -- mode, high sight and hand, low sight and hand
+  boundeds : Mode → List ℕ → List ℕ → List ℕ → List ℕ → KeyForm → KeyForm
 
 -- a call as it is written, each formula as the list of its clauses
 pub data Form : Type 0 where
@@ -24,6 +33,8 @@ pub data Form : Type 0 where
   puts : ℕ → ℕ → Form
   drops : ℕ → ℕ → Form
   shows : ℕ → ℕ → Form
+  releases : ℕ → ℕ → List ℕ → KeyForm → Form
+  endorses : ℕ → ℕ → List ℕ → KeyForm → Form
 
 abbrev pub Words : Type 0
 Words = List (List ℕ)
@@ -71,6 +82,34 @@ dropForm ws = one decimal ws (λ t v. one decimal v (λ r. ends (drops t r)))
 abbrev pub showForm : Words → Option Form
 showForm ws = one decimal ws (λ r v. one hexFour v (λ g. ends (shows r g)))
 
+-- MODE HIGH-SIGHT HIGH-HAND LOW-SIGHT LOW-HAND
+abbrev pub boundedForm : KeyForm → Words → (KeyForm → Words → Option Form) → Option Form
+boundedForm k ws next =
+    one modeOf ws (λ m v. one formulaOf v (λ hs u. one formulaOf u (λ hh t. one formulaOf t (λ ls s. one formulaOf s (λ lh. next (boundeds m hs hh ls lh k))))))
+
+-- MODE
+abbrev pub robustForm : KeyForm → Words → (KeyForm → Words → Option Form) → Option Form
+robustForm k ws next = one modeOf ws (λ m. next (robusts m k))
+
+-- code 0 is plain, 1 robust, 2 bounded, 3 bounded over robust
+abbrev pub wraps : ℕ → KeyForm → Words → (KeyForm → Words → Option Form) → Option Form
+wraps code k ws next =
+    cond (eqb code 0) (next k ws)
+    (cond (eqb code 1) (robustForm k ws next)
+    (cond (eqb code 2) (boundedForm k ws next) (cond (eqb code 3) (robustForm k ws (λ j v. boundedForm j v next)) None)))
+
+-- CODE PLAIN, then what the wraps add
+abbrev pub keyForm : Words → (KeyForm → Words → Option Form) → Option Form
+keyForm ws next = one decimal ws (λ code v. one formulaOf v (λ f u. wraps code (plains f) u next))
+
+-- release TASK RECORD FORMULA KEY
+abbrev pub releaseForm : Words → Option Form
+releaseForm ws = one decimal ws (λ t v. one decimal v (λ r u. one formulaOf u (λ f s. keyForm s (λ k. ends (releases t r f k)))))
+
+-- endorse TASK RECORD FORMULA KEY
+abbrev pub endorseForm : Words → Option Form
+endorseForm ws = one decimal ws (λ t v. one decimal v (λ r u. one formulaOf u (λ f s. keyForm s (λ k. ends (endorses t r f k)))))
+
 abbrev pub nameOf : List ℕ → Option Name
 nameOf w =
     cond (sameBytes w (codes "enter")) (Some Enter)
@@ -80,7 +119,9 @@ nameOf w =
     (cond (sameBytes w (codes "put")) (Some Put)
     (cond (sameBytes w (codes "drop")) (Some Drop)
     (cond (sameBytes w (codes "show")) (Some Show)
-    None))))))
+    (cond (sameBytes w (codes "release")) (Some Release)
+    (cond (sameBytes w (codes "endorse")) (Some Endorse)
+    None))))))))
 
 abbrev pub formFor : Name → Words → Option Form
 formFor Enter ws = enterForm ws
@@ -90,6 +131,8 @@ formFor Take ws = takeForm ws
 formFor Put ws = putForm ws
 formFor Drop ws = dropForm ws
 formFor Show ws = showForm ws
+formFor Release ws = releaseForm ws
+formFor Endorse ws = endorseForm ws
 
 -- what a line of at most 4,096 bytes writes: its words are parted by single spaces (byte 32)
 abbrev pub formOf : List ℕ → Option Form

@@ -9,8 +9,11 @@ use Rattle.words.specs.Parted.{parted}
 use Rattle.words.specs.Formulas.{written}
 use Rattle.lines.specs.declared.words_left.WordsLeft.{WordsLeft}
 use Rattle.lines.specs.declared.call.Call.{Call}
-use Rattle.lines.specs.declared.call.Call.the-variants.{Enter, Open, Close, Take, Put, Drop, Show}
-use Rattle.lines.specs.Forms.{Form, enters, opens, closes, takes, puts, drops, shows, Words, one, ends}
+use Rattle.lines.specs.declared.call.Call.the-variants.{Enter, Open, Close, Take, Put, Drop, Show, Release, Endorse}
+use Rattle.lines.specs.declared.call.BoundsWords.{BoundsWords}
+use Rattle.lines.specs.declared.call.KeyWords.{KeyWords}
+use Rattle.lines.specs.declared.call.KeyWords.the-variants.{Plain, Robust, Bounded, BoundedRobust}
+use Rattle.lines.specs.Forms.{Form, enters, opens, closes, takes, puts, drops, shows, releases, endorses, KeyForm, plains, robusts, boundeds, Words, one, ends, boundedForm, keyForm}
 
 abbrev pub leftOf : Option (RefT (List ℕ)) → Words
 leftOf None = []
@@ -37,6 +40,23 @@ abbrev pub Ended : Words → Option (Unit {0}) → Type 0
 Ended ws None = (c : Form) → ends c ws ≡ None
 Ended ws (Some u) = (c : Form) → ends c ws ≡ Some c
 
+abbrev pub boundsSay : BoundsWords → KeyForm → KeyForm
+boundsSay b k = boundeds (b .mode) (written (b .«high_sight»)) (written (b .«high_hand»)) (written (b .«low_sight»)) (written (b .«low_hand»)) k
+
+abbrev pub keySay : KeyWords → KeyForm
+keySay (Plain f) = plains (written f)
+keySay (Robust f m) = robusts m (plains (written f))
+keySay (Bounded f b) = boundsSay b (plains (written f))
+keySay (BoundedRobust f m b) = boundsSay b (robusts m (plains (written f)))
+
+abbrev pub BoundsTaken : Words → Option BoundsWords → Words → Type 0
+BoundsTaken ws None after = (k : KeyForm) (next : KeyForm → Words → Option Form) → boundedForm k ws next ≡ None
+BoundsTaken ws (Some b) after = (k : KeyForm) (next : KeyForm → Words → Option Form) → boundedForm k ws next ≡ next (boundsSay b k) after
+
+abbrev pub KeyTaken : Words → Option KeyWords → Words → Type 0
+KeyTaken ws None after = (next : KeyForm → Words → Option Form) → keyForm ws next ≡ None
+KeyTaken ws (Some k) after = (next : KeyForm → Words → Option Form) → keyForm ws next ≡ next (keySay k) after
+
 abbrev pub say : Call → Form
 say (Enter r p f s h) = enters r p f (written s) (written h)
 say (Open t p) = opens t p
@@ -45,6 +65,8 @@ say (Take t r m) = takes t r m
 say (Put t r) = puts t r
 say (Drop t r) = drops t r
 say (Show r g) = shows r g
+say (Release t r f k) = releases t r (written f) (keySay k)
+say (Endorse t r f k) = endorses t r (written f) (keySay k)
 
 abbrev pub sayIn : Option Call → Option Form
 sayIn None = None

@@ -1,3 +1,4 @@
 pub mod Forms
 pub mod Left
 pub mod Obey
+pub mod Keys

@@ -5,6 +5,8 @@ ghost use Rattle.lines.specs.Left.{say};
 ghost use Rattle.lines.specs.Obey.{obeying, lineRuled, values};
 use crate::call::Call;
 use crate::forms::parse;
+use crate::line_key::LineKeyKey;
+use crate::reading::read_key;
 use answer::Answer;
 use answer::Refusal;
 use label::Hand;
@@ -40,6 +42,26 @@ fn make(monitor: &mut Monitor, call: Call<'_>) -> Result<Option<u32>, Refusal>
         Call::Put { task, record } => monitor.put(task, record)?,
         Call::Drop { task, record } => monitor.drop(task, record)?,
         Call::Show { record, group } => return Ok(Some(monitor.show(record, group)?)),
+        Call::Release {
+            task,
+            record,
+            new,
+            key,
+        } => {
+            let new = read_formula(new)?;
+            let key = read_key(key)?;
+            monitor.release(task, record, new, &key)?;
+        }
+        Call::Endorse {
+            task,
+            record,
+            new,
+            key,
+        } => {
+            let new = read_formula(new)?;
+            let key = read_key(key)?;
+            monitor.endorse(task, record, new, &key)?;
+        }
     }
     Ok(None)
 }

@@ -1,3 +1,4 @@
+use key::Mode;
 use words::FormulaWord;
 
 /// The names of the calls.
@@ -10,6 +11,27 @@ pub enum Name {
     Put,
     Drop,
     Show,
+    Release,
+    Endorse,
+}
+
+/// The words that a bounded wrap adds to a key.
+#[derive(Clone, Copy)]
+pub struct BoundsWords<'a> {
+    pub mode: Mode,
+    pub high_sight: FormulaWord<'a>,
+    pub high_hand: FormulaWord<'a>,
+    pub low_sight: FormulaWord<'a>,
+    pub low_hand: FormulaWord<'a>,
+}
+
+/// A key as a line writes it, by its code.
+#[derive(Clone, Copy)]
+pub enum KeyWords<'a> {
+    Plain(FormulaWord<'a>),
+    Robust(FormulaWord<'a>, Mode),
+    Bounded(FormulaWord<'a>, BoundsWords<'a>),
+    BoundedRobust(FormulaWord<'a>, Mode, BoundsWords<'a>),
 }
 
 /// A call as a line writes it. Its formulas are the parts of the line where they stand.
@@ -45,5 +67,17 @@ pub enum Call<'a> {
     Show {
         record: u64,
         group: u16,
+    },
+    Release {
+        task: u64,
+        record: u64,
+        new: FormulaWord<'a>,
+        key: KeyWords<'a>,
+    },
+    Endorse {
+        task: u64,
+        record: u64,
+        new: FormulaWord<'a>,
+        key: KeyWords<'a>,
     },
 }

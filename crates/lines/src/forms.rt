@@ -1,5 +1,5 @@
 ghost use mathlib.Core.Path.{_≡_};
-ghost use Rattle.lines.specs.Forms.{enterForm, openForm, closeForm, takeForm, putForm, dropForm, showForm, formOf};
+ghost use Rattle.lines.specs.Forms.{enterForm, openForm, closeForm, takeForm, putForm, dropForm, showForm, releaseForm, endorseForm, formOf};
 ghost use Rattle.lines.specs.Left.{left, sayIn};
 use crate::call::Call;
 use crate::call::Name;
@@ -84,6 +84,38 @@ fn show<'a>(line: &mut WordsLeft<'a>) -> Option<Call<'a>>
     Some(Call::Show { record, group })
 }
 
+fn release<'a>(line: &mut WordsLeft<'a>) -> Option<Call<'a>>
+    ensures { λ r. ⌜ sayIn r ≡ releaseForm (left (now (line .entry))) ⌝ }
+{
+    let task = line.number()?;
+    let record = line.number()?;
+    let new = line.formula()?;
+    let key = line.key()?;
+    line.end()?;
+    Some(Call::Release {
+        task,
+        record,
+        new,
+        key,
+    })
+}
+
+fn endorse<'a>(line: &mut WordsLeft<'a>) -> Option<Call<'a>>
+    ensures { λ r. ⌜ sayIn r ≡ endorseForm (left (now (line .entry))) ⌝ }
+{
+    let task = line.number()?;
+    let record = line.number()?;
+    let new = line.formula()?;
+    let key = line.key()?;
+    line.end()?;
+    Some(Call::Endorse {
+        task,
+        record,
+        new,
+        key,
+    })
+}
+
 /// The call that a line writes, if the line has one of the forms.
 pub fn parse(line: &[u8]) -> Option<Call<'_>>
     ensures { λ r. ⌜ sayIn r ≡ formOf (now (line .entry)) ⌝ }
@@ -100,5 +132,7 @@ pub fn parse(line: &[u8]) -> Option<Call<'_>>
         Name::Put => put(&mut words),
         Name::Drop => drop_record(&mut words),
         Name::Show => show(&mut words),
+        Name::Release => release(&mut words),
+        Name::Endorse => endorse(&mut words),
     }
 }

@@ -2,6 +2,8 @@
 mod answering;
 mod call;
 mod forms;
+mod line_key;
+mod reading;
 mod words_left;
 
 pub use answering::obey;

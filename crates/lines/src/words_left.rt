@@ -3,13 +3,18 @@ ghost use Rattle.std.specs.shelf.Text.{sameBytes};
 ghost use Rattle.words.specs.Decimal.{decimal};
 ghost use Rattle.words.specs.Formulas.{formulaOf, writtenIn};
 ghost use Rattle.words.specs.Hex.{hexFour};
+ghost use Rattle.words.specs.Modes.{modeOf};
 ghost use Rattle.lines.specs.Forms.{nameOf};
-ghost use Rattle.lines.specs.Left.{left, Took, Taken, Ended};
+ghost use Rattle.lines.specs.Left.{left, Took, Taken, Ended, BoundsTaken, KeyTaken};
+use crate::call::BoundsWords;
+use crate::call::KeyWords;
 use crate::call::Name;
+use key::Mode;
 use words::FormulaWord;
 use words::cut;
 use words::formula_word;
 use words::hex_four;
+use words::mode_word;
 use words::number;
 
 /// The words of a line that have not been read yet.
@@ -42,6 +47,10 @@ fn name_of(word: &[u8]) -> Option<Name>
         Some(Name::Drop)
     } else if is_name(word, b"show") {
         Some(Name::Show)
+    } else if is_name(word, b"release") {
+        Some(Name::Release)
+    } else if is_name(word, b"endorse") {
+        Some(Name::Endorse)
     } else {
         None
     }
@@ -80,6 +89,55 @@ impl<'a> WordsLeft<'a> {
         ensures { λ r. ⌜ Taken formulaOf (left (now (self .entry))) (writtenIn r) (left (now (self .exit))) ⌝ }
     {
         formula_word(self.word()?)
+    }
+
+    pub fn mode(&mut self) -> Option<Mode>
+        ensures { λ r. ⌜ Taken modeOf (left (now (self .entry))) r (left (now (self .exit))) ⌝ }
+    {
+        mode_word(self.word()?)
+    }
+
+    /// The words that a bounded wrap adds.
+    fn bounds(&mut self) -> Option<BoundsWords<'a>>
+        ensures { λ r. ⌜ BoundsTaken (left (now (self .entry))) r (left (now (self .exit))) ⌝ }
+    {
+        let mode = self.mode()?;
+        let high_sight = self.formula()?;
+        let high_hand = self.formula()?;
+        let low_sight = self.formula()?;
+        let low_hand = self.formula()?;
+        Some(BoundsWords {
+            mode,
+            high_sight,
+            high_hand,
+            low_sight,
+            low_hand,
+        })
+    }
+
+    /// A key: its code, its plain formula, and what the wraps add.
+    pub fn key(&mut self) -> Option<KeyWords<'a>>
+        ensures { λ r. ⌜ KeyTaken (left (now (self .entry))) r (left (now (self .exit))) ⌝ }
+    {
+        let code = self.number()?;
+        let plain = self.formula()?;
+        match code {
+            0 => Some(KeyWords::Plain(plain)),
+            1 => {
+                let robust = self.mode()?;
+                Some(KeyWords::Robust(plain, robust))
+            }
+            2 => {
+                let bounds = self.bounds()?;
+                Some(KeyWords::Bounded(plain, bounds))
+            }
+            3 => {
+                let robust = self.mode()?;
+                let bounds = self.bounds()?;
+                Some(KeyWords::BoundedRobust(plain, robust, bounds))
+            }
+            _ => None,
+        }
     }
 
     /// Nothing, where no word is left.

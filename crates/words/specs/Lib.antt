@@ -3,3 +3,4 @@ pub mod Decimal
 pub mod Parted
 pub mod Formulas
 pub mod Gathers
+pub mod Modes

@@ -2,6 +2,7 @@
 mod clauses;
 mod decimal;
 mod hex;
+mod mode;
 mod parting;
 
 pub use clauses::FormulaWord;
@@ -9,4 +10,5 @@ pub use clauses::formula_word;
 pub use clauses::read_formula;
 pub use decimal::number;
 pub use hex::hex_four;
+pub use mode::mode_word;
 pub use parting::cut;

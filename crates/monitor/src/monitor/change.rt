@@ -66,7 +66,8 @@ impl Monitor {
             figure: pair.filled.figure,
             label: pair.filled.label.relabel(kind, new),
         };
-        self.tables.set_record(record as usize, Slot::Filled(filled));
+        self.tables
+            .set_record(record as usize, Slot::Filled(filled));
         Ok(())
     }
 }
