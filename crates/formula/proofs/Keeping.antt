@@ -10,15 +10,16 @@ use lib.Dec.{ltb, leb, eqb}
 use lib.ListN.{length, getD, take, length-take}
 use Rattle.std.specs.shelf.Lists.{All}
 use Rattle.std.proofs.shelf.Elements.{all-getD, all-from-getD}
-use Rattle.std.proofs.shelf.Tests.{and-parts, and-from, lt-ltb, ltb-true, le-leb, leb-true, eqb-true, eqb-false, ne-eqb, not-true, not-false, not-from-false, and-cases, and-left, cases-lt}
+use Rattle.std.proofs.shelf.Tests.{and-parts, and-from, lt-ltb, ltb-true, le-leb, leb-true, eqb-true, eqb-false, ne-eqb, not-true, not-false, not-from-false, and-cases, and-left, cases-lt, cases-bool, cond-true, cond-false}
 use Rattle.std.proofs.shelf.Lists.{take-all, getD-take}
+use Rattle.std.specs.declared.option.Option.the-variants.{Some, None}
 use Rattle.clause.specs.Reduced.{wider, reduced}
 use Rattle.clause.proofs.Canonical.{Rises, Antichain}
 use Rattle.clause.proofs.Reduced.{Pairs, pairs-getD, rises-reduced, antichain-reduced, alike-reduced}
 use Rattle.formula.specs.declared.kept.Formula.{Formula}
 use Rattle.formula.specs.Kept.{Unused, Rising, Apart, Sixteen}
 use Rattle.formula.specs.Of.{clausesOf}
-use Rattle.formula.specs.Keeping.{apart, apartAll, ordered, kept, Kept-is-reduced}
+use Rattle.formula.specs.Keeping.{apart, apartAll, ordered, kept, keeping, Kept-is-reduced}
 use Rattle.formula.proofs.Choosing.{take-same}
 use Rattle.formula.proofs.Forming.{eight, small-reduced}
 
@@ -128,3 +129,18 @@ kept-is-reduced xs s = (
       (ordered-by xs (subst (λ (y : List ℕ). (i j : ℕ) → i < j → j < length y → Beside (getD y i 0) (getD y j 0)) (h .1)
       (λ i j l m. (rises-reduced xs i j l m, antichain-reduced xs i j l m)))),
 )
+
+-- what it tells of a list that it was kept as a formula, or not
+pub keeping-some : (xs list : List ℕ) → Some xs ≡ keeping list → (kept list ≡ true) × (xs ≡ list)
+keeping-some xs list e =
+    elim (cases-bool (kept list)) [
+      | inl h ↦ let p : Some xs ≡ Some list = e ∙ cond-true (kept list) (Some list) None h in (h, cc)
+      | inr h ↦ let p : Some xs ≡ None = e ∙ cond-false (kept list) (Some list) None h in absurd (let z : _≡_ {A = ℕ} 0 1 = cc in omega arith)
+    ]
+
+pub keeping-none : (list : List ℕ) → None ≡ keeping list → kept list ≡ false
+keeping-none list e =
+    elim (cases-bool (kept list)) [
+      | inl h ↦ let p : None ≡ Some list = e ∙ cond-true (kept list) (Some list) None h in absurd (let z : _≡_ {A = ℕ} 0 1 = cc in omega arith)
+      | inr h ↦ h
+    ]

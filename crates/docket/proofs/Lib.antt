@@ -1,0 +1,7 @@
+mod Rows
+mod Numbers
+mod Fetching
+mod Steps
+mod Splitting
+mod Entering
+mod Placing
