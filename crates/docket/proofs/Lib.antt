@@ -5,3 +5,11 @@ mod Steps
 mod Splitting
 mod Entering
 mod Placing
+mod Forth
+mod Back
+mod Packing
+mod Whole
+mod Settles
+mod Laws
+mod Drawing
+mod Telling

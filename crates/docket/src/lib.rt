@@ -2,9 +2,12 @@
 mod entry;
 mod field;
 mod part;
+mod pen;
 mod read;
 mod size;
+mod write;
 
 pub use entry::Entry;
 pub use entry::Read;
 pub use read::read_entry;
+pub use write::write_entry;

@@ -1,6 +1,7 @@
 ghost use mathlib.Core.Path.{_≡_};
 ghost use Rattle.docket.specs.Bits.{unpack};
 ghost use Rattle.docket.specs.Reading.{kindOf, reading, entryAt, standing, readAt};
+ghost use Rattle.docket.specs.Laws.{WasWritten, Docket-laws};
 use crate::Entry;
 use crate::Read;
 use crate::field::take_field;
@@ -15,6 +16,8 @@ use label::Kind;
 /// What stands at a place of the docket.
 pub fn read_entry(bytes: &[u8], place: u64) -> Read
     ensures answer { λ r. ⌜ standing r ≡ readAt (now (bytes .entry)) place ⌝ }
+    ensures written { λ r. ⌜ WasWritten (now (bytes .entry)) place (standing r) ⌝ }
+    ensures laws { λ _. ⌜ Docket-laws ⌝ }
 {
     if place > bytes.len() as u64 {
         return Read::Refused(Refusal::Missing);

@@ -84,6 +84,12 @@ kept-clauses f =
     let q = getD-take (f .count) (f .clauses) j 0 n in
     simp (p, q) (f .rising i j l n, f .apart i j l n)))
 
+-- each of a formula's clauses is a set of sixteen parties
+pub sixteen-clauses : (f : Formula) → All (λ c. c < 65536) (clausesOf f)
+sixteen-clauses f =
+    all-from-getD (λ c. c < 65536) (clausesOf f) 0
+    (λ i h. omega (arith, getD-take (f .count) (f .clauses) i 0 (omega (arith, length-take (f .count) (f .clauses))), f .fits i))
+
 -- what an array holds that the whole of a list was copied into
 module _ (xs clauses : List ℕ) (n : ℕ) (same : take n clauses ≡ take n xs) (all : n ≡ length xs) where
   copied-at : (i : ℕ) → i < length xs → getD clauses i 0 ≡ getD xs i 0
