@@ -63,7 +63,7 @@ def entry(data):
 
 
 def read(data, place):
-    """What stands at a place, in words."""
+    """What stands at a place, in words, with the bytes of an entry."""
     if place > len(data):
         return "19"
     if place == len(data):
@@ -77,4 +77,4 @@ def read(data, place):
     if group is not None:
         words.append(f"{group:04x}")
     words.append(".".join(f"{clause:04x}" for clause in clauses) or "T")
-    return f"{' '.join(words)} next {place + size}"
+    return f"{' '.join(words)} next {place + size} as {data[place : place + size].hex()}"

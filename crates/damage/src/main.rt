@@ -1,5 +1,5 @@
 //! Reads damaged dockets, a line of hexadecimal digits each, and prints what the docket's reader says
-//! stands at their start. The expected text comes from another decoder: see tools/damage.
+//! stands at their start, and the bytes that the writer makes of an entry that it found. The expected text comes from another decoder: see tools/damage.
 ghost use Prim.Native.Nat.{_<_};
 use answer::Refusal;
 use docket::Entry;
@@ -34,9 +34,26 @@ fn show<W: Write>(out: &mut W, digits: &[u8]) -> io::Result<()> {
         Read::Refused(refusal) => writeln!(out, "{}", refusal.number()),
         Read::Found(entry, next) => {
             show_entry(out, &entry)?;
-            writeln!(out, " next {next}")
+            write!(out, " next {next} as ")?;
+            show_again(out, &entry)
         }
     }
+}
+
+/// Prints the bytes that the writer makes of an entry.
+fn show_again<W: Write>(out: &mut W, entry: &Entry) -> io::Result<()> {
+    let mut bytes = [0u8; 21];
+    let mut left = match docket::write_entry(&mut bytes, 0, entry) {
+        Ok(next) => next,
+        Err(_) => 0,
+    };
+    for &byte in &bytes {
+        if left > 0 {
+            write!(out, "{byte:02x}")?;
+            left -= 1;
+        }
+    }
+    writeln!(out)
 }
 
 /// The value of a hexadecimal digit.

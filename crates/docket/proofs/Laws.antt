@@ -5,6 +5,7 @@ use Prim.Native.Nat.{ℕ}
 use Rattle.docket.specs.Reading.{Standing, entry, over, refusal, readAt}
 use Rattle.docket.specs.Laws.{Bytes, WasWritten, Docket-laws}
 use Rattle.docket.proofs.Whole.{bytes-are-bits, reads-back, read-was-written, told-apart, docket-reads-back, docket-was-written, over-end}
+use Rattle.docket.proofs.Filing.{written-reads-back}
 use Rattle.docket.proofs.Settles.{missing}
 
 pub laws : Docket-laws
@@ -16,6 +17,7 @@ laws =
       told-apart = told-apart;
       docket-reads-back = docket-reads-back;
       docket-was-written = docket-was-written;
+      written-reads-back = written-reads-back;
       missing = missing;
     }
 

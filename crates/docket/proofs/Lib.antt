@@ -10,6 +10,7 @@ mod Back
 mod Packing
 mod Whole
 mod Settles
+mod Filing
 mod Laws
 mod Drawing
 mod Telling

@@ -10,6 +10,7 @@ use Rattle.answer.specs.Told.{Told, granted, refused}
 use Rattle.formula.specs.Keeping.{kept}
 use Rattle.docket.specs.Bits.{unpack}
 use Rattle.docket.specs.Entries.{Plain, carries, sizeOf, entryBits, entryBytes}
+use Rattle.docket.specs.Writing.{written}
 use Rattle.docket.specs.Reading.{Standing, entry, over, refusal, readAt}
 
 -- each is a byte
@@ -76,6 +77,23 @@ abbrev pub Docket-was-written : Type 0
 Docket-was-written =
     (bytes : List ℕ) (place : ℕ) (es : List Plain) → Bytes bytes → ReadsOn bytes place es → All Carried es × (drop place bytes ≡ docketBytes es)
 
+-- entries written one after another from a place on
+abbrev pub writtenAll : List Plain → ℕ → List ℕ → List ℕ
+writtenAll [] place bytes = bytes
+writtenAll (e ∷ es) place bytes = writtenAll es (place + sizeOf e) (written e place bytes)
+
+abbrev pub docketSize : List Plain → ℕ
+docketSize [] = 0
+docketSize (e ∷ es) = sizeOf e + docketSize es
+
+-- written one after another into a buffer that has room for all, they leave every other byte, and read
+-- back as that list up to their end, where the docket is over
+abbrev pub Written-reads-back : Type 0
+Written-reads-back =
+    (es : List Plain) (place : ℕ) (bytes : List ℕ) → All Carried es → place + docketSize es ≤ length bytes
+    → (writtenAll es place bytes ≡ take place bytes ++ (docketBytes es ++ drop (place + docketSize es) bytes))
+    × ReadsOn (take (place + docketSize es) (writtenAll es place bytes)) place es
+
 -- inside the docket, 19 is the answer exactly where bytes to follow could change it
 abbrev pub Missing-where-more-matters : Type 0
 Missing-where-more-matters =
@@ -90,6 +108,7 @@ pub record Docket-laws : Type 0 where
   pub told-apart : Told-apart
   pub docket-reads-back : Docket-reads-back
   pub docket-was-written : Docket-was-written
+  pub written-reads-back : Written-reads-back
   pub missing : Missing-where-more-matters
 
 -- what the answer of the reader says of the bytes that it read
