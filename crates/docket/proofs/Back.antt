@@ -2,17 +2,17 @@
 use mathlib.Core.Path.{_≡_, refl, sym, ap, subst, _∙_}
 use mathlib.Core.List.{List, [], _∷_, _++_}
 use mathlib.Core.Bool.{Bool, true, false, cond, _&&_}
-use Prim.Native.Nat.{ℕ, zero, suc, _+_, _*_, _^_, _<_, _≤_}
+use Prim.Native.Nat.{ℕ, zero, suc, _+_, _^_, _<_}
 use native.Mathlib.Omega.{arith}
 use lib.Dec.{leb, eqb, ltb}
 use lib.ListN.{length, take, drop, take-append-drop}
 use Rattle.std.proofs.shelf.Lists.{append-assoc, length-take-le}
-use Rattle.std.proofs.shelf.Tests.{eq-eqb, eqb-true, eqb-false, ne-eqb, leb-true, lt-ltb, and-from, cond-true, cond-false}
+use Rattle.std.proofs.shelf.Tests.{eq-eqb, eqb-true, eqb-false, leb-true, lt-ltb, and-from, cond-true, cond-false}
 use Rattle.std.specs.declared.result.Result.the-variants.{Ok, Err}
 use Rattle.answer.specs.Told.{Told, granted, refused}
 use Rattle.formula.specs.Keeping.{kept}
 use Rattle.docket.specs.Bits.{bits, number}
-use Rattle.docket.specs.Entries.{Plain, kindBit, asked, brings, carries, carriesAnswer, words, answerBits, formulaBits, padSize, entryBits}
+use Rattle.docket.specs.Entries.{Plain, kindBit, asked, brings, carriesAnswer, words, answerBits, formulaBits, padSize, entryBits}
 use Rattle.docket.specs.Reading.{Reading, field, lawful, wordsAt, questionAt, answerAt, formulaAt, padAt, kindOf, made, newAt, toldAt, recordAt, taskAt, entryAt}
 use Rattle.docket.specs.Laws.{Sets, valuesOf, Carried}
 use Rattle.docket.proofs.Numbers.{Bits, Bits-take, Bits-drop, bits-number, number-small}

@@ -1,17 +1,17 @@
 -- Bits written behind others.
-use mathlib.Core.Path.{_≡_, refl, sym, ap, subst, _∙_}
+use mathlib.Core.Path.{_≡_, sym, ap, subst, _∙_}
 use mathlib.Core.List.{List, [], _∷_, _++_}
-use Prim.Native.Nat.{ℕ, zero, suc, _+_, _-_, _*_, _/_, _%_, _^_, _<_, _≤_}
+use Prim.Native.Nat.{ℕ, _+_, _-_, _*_, _/_, _%_, _^_, _<_, _≤_}
 use native.Mathlib.Omega.{arith}
 use lib.Bits.{bitOr}
 use lib.ListN.{length, take, set, length-append}
 use native.Mathlib.Nat.{mul-le-mul-right, add-mul}
-use Rattle.std.proofs.shelf.Bits.{shl-whole, shl-below, or-shifted, one-shl, shr-split, shr-below, mod-below, pow-pos, pow-add}
+use Rattle.std.proofs.shelf.Bits.{shl-whole, or-shifted, shr-split, mod-below, pow-pos, pow-add}
 use Rattle.std.proofs.shelf.Lists.{append-assoc, append-nil, take-more-set, take-all}
 use Rattle.docket.specs.declared.pen.Pen.{Pen}
 use Rattle.docket.specs.Bits.{bits, unpack}
 use Rattle.docket.specs.Drawing.{reach, drawn, Drew}
-use Rattle.docket.proofs.Rows.{length-bits, unpack-append, bits-low, bits-join}
+use Rattle.docket.proofs.Rows.{unpack-append, bits-join}
 
 -- a number behind the bits that wait
 module _ (held count value width : ℕ) (low : held < 2 ^ count) (few : count < 8) (small : value < 2 ^ width) (short : width ≤ 16) where

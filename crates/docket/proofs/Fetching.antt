@@ -1,14 +1,14 @@
 -- A field cut out of the three bytes that hold it.
 use mathlib.Core.Path.{_≡_, refl, sym, ap, subst, _∙_}
 use mathlib.Core.List.{List, [], _∷_, _++_}
-use Prim.Native.Nat.{ℕ, zero, suc, _+_, _-_, _*_, _/_, _%_, _^_, _<_, _≤_}
+use Prim.Native.Nat.{ℕ, _+_, _-_, _*_, _/_, _%_, _^_, _<_, _≤_}
 use native.Mathlib.Omega.{arith}
-use lib.ListN.{length, getD, take, drop, length-append, length-drop}
-use Rattle.std.proofs.shelf.Lists.{append-assoc, append-nil, drop-drop, take-append-le, drop-append-le, getD-drop}
+use lib.ListN.{length, getD, take, drop, length-drop}
+use Rattle.std.proofs.shelf.Lists.{drop-drop, take-append-le, drop-append-le, getD-drop}
 use Rattle.std.proofs.shelf.Bits.{one-shl, mod-below, pow-pos}
 use Rattle.docket.specs.Bits.{bits, unpack}
 use Rattle.docket.specs.Fetch.{three}
-use Rattle.docket.proofs.Rows.{length-bits, length-unpack, unpack-append, unpack-drop, take-bits, drop-bits, bits-low, bits-join}
+use Rattle.docket.proofs.Rows.{unpack-drop, take-bits, drop-bits, bits-low, bits-join}
 
 -- bits inside the front of a row, whatever follows
 inside : (w s : ℕ) (xs ys : List ℕ) → s + w ≤ length xs → take w (drop s (xs ++ ys)) ≡ take w (drop s xs)

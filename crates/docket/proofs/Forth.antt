@@ -1,9 +1,9 @@
 -- What is written is read back.
-use mathlib.Core.Path.{_≡_, refl, sym, ap, subst, _∙_}
+use mathlib.Core.Path.{_≡_, refl, sym, ap, _∙_}
 use mathlib.Core.List.{List, [], _∷_, _++_}
-use mathlib.Core.Bool.{Bool, true, false, cond, _&&_, _||_}
+use mathlib.Core.Bool.{true, cond, _&&_, _||_}
 use mathlib.Core.Logic.{inl, inr}
-use Prim.Native.Nat.{ℕ, zero, suc, _+_, _*_, _^_, _<_, _≤_}
+use Prim.Native.Nat.{ℕ, _+_, _^_, _<_, _≤_}
 use native.Mathlib.Omega.{arith}
 use lib.Dec.{leb, eqb, ltb}
 use lib.ListN.{length, take, drop, length-append}
@@ -16,7 +16,7 @@ use Rattle.formula.specs.Keeping.{kept, ordered}
 use Rattle.label.specs.declared.kind.Kind.{Kind}
 use Rattle.label.specs.declared.kind.Kind.the-variants.{Release, Endorse}
 use Rattle.docket.specs.Bits.{bits, number}
-use Rattle.docket.specs.Entries.{Plain, kindBit, asked, brings, carries, carriesAnswer, words, answerBits, formulaBits, padSize, entryBits}
+use Rattle.docket.specs.Entries.{Plain, kindBit, asked, brings, carriesAnswer, words, answerBits, formulaBits, padSize, entryBits}
 use Rattle.docket.specs.Reading.{Reading, field, lawful, wordsAt, questionAt, answerAt, formulaAt, padAt, kindOf, made, newAt, toldAt, recordAt, taskAt, entryAt}
 use Rattle.docket.specs.Laws.{Sets, valuesOf, Carried}
 use Rattle.docket.proofs.Rows.{length-bits}

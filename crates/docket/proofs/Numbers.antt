@@ -1,10 +1,10 @@
 -- Numbers and their bits.
 use mathlib.Core.Path.{_≡_, refl, sym, ap, subst, _∙_}
 use mathlib.Core.List.{List, [], _∷_, _++_}
-use Prim.Native.Nat.{ℕ, zero, suc, _+_, _-_, _*_, _/_, _%_, _^_, _<_, _≤_}
+use Prim.Native.Nat.{ℕ, zero, suc, _+_, _-_, _*_, _/_, _%_, _^_, _<_}
 use native.Mathlib.Omega.{arith}
 use native.Mathlib.Nat.{mod-eq-of-lt, add-zero, zero-add, mul-le-mul-right, mul-assoc, mul-comm, add-mul}
-use lib.ListN.{length, getD, take, drop}
+use lib.ListN.{length, take, drop}
 use lib.Pow.{pow-add}
 use Rattle.std.proofs.shelf.Bits.{mod-pow-add}
 use Rattle.std.proofs.shelf.Lists.{append-assoc, append-nil}

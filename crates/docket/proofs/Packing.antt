@@ -1,7 +1,7 @@
 -- Bits and the bytes that they fill.
 use mathlib.Core.Path.{_≡_, refl, sym, ap, subst, _∙_}
 use mathlib.Core.List.{List, [], _∷_, _++_}
-use Prim.Native.Nat.{ℕ, zero, suc, _+_, _*_, _^_, _<_, _≤_}
+use Prim.Native.Nat.{ℕ, zero, suc, _+_, _*_, _≤_}
 use native.Mathlib.Omega.{arith}
 use lib.ListN.{length, take, drop, length-append, length-drop, take-append-drop}
 use Rattle.std.proofs.shelf.Lists.{length-take-le, take-at, nil-from-length, append-assoc}
@@ -9,7 +9,7 @@ use Rattle.answer.specs.Told.{Told, granted, refused}
 use Rattle.docket.specs.Bits.{bits, unpack, number, packed}
 use Rattle.docket.specs.Entries.{Plain, words, answerBits, answerSize, formulaBits, padSize, headSize, entryBits, sizeOf, entryBytes}
 use Rattle.docket.specs.Laws.{Bytes}
-use Rattle.docket.proofs.Rows.{length-bits, length-unpack}
+use Rattle.docket.proofs.Rows.{length-bits}
 use Rattle.docket.proofs.Numbers.{Bits, Bits-take, Bits-drop, Bits-append, bits-Bits, bits-number, number-bits}
 
 pub length-packed : (n : ℕ) (U : List ℕ) → length (packed n U) ≡ n

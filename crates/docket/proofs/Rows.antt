@@ -1,12 +1,11 @@
 -- Rows of bits.
-use mathlib.Core.Path.{_≡_, refl, sym, ap, subst, _∙_}
+use mathlib.Core.Path.{_≡_, refl, sym, ap, _∙_}
 use mathlib.Core.List.{List, [], _∷_, _++_}
-use Prim.Native.Nat.{ℕ, zero, suc, _+_, _-_, _*_, _/_, _%_, _^_, _<_, _≤_}
+use Prim.Native.Nat.{ℕ, zero, suc, _+_, _-_, _*_, _/_, _%_, _^_, _<_}
 use native.Mathlib.Omega.{arith}
-use native.Mathlib.Nat.{mod-eq-of-lt, add-zero, zero-add}
-use lib.ListN.{length, take, drop, length-append}
-use lib.Pow.{pow-add}
-use Rattle.std.proofs.shelf.Bits.{shr-shr, mod-pow-add, field-of, shr-high, mod-low, pow-pos}
+use native.Mathlib.Nat.{add-zero, zero-add}
+use lib.ListN.{length, take, drop}
+use Rattle.std.proofs.shelf.Bits.{shr-shr, mod-pow-add, field-of, shr-high, mod-low}
 use Rattle.std.proofs.shelf.Lists.{append-assoc, drop-drop}
 use Rattle.docket.specs.Bits.{bits, unpack}
 

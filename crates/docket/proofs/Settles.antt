@@ -1,20 +1,20 @@
 -- Which answers rest on the bits at hand.
-use mathlib.Core.Path.{_≡_, refl, sym, ap, subst, _∙_}
+use mathlib.Core.Path.{_≡_, refl, sym, ap, _∙_}
 use mathlib.Core.List.{List, [], _∷_, _++_}
 use mathlib.Core.Bool.{Bool, true, false, cond}
 use mathlib.Core.Logic.{inl, inr}
-use Prim.Native.Nat.{ℕ, zero, suc, _+_, _-_, _*_, _<_, _≤_}
+use Prim.Native.Nat.{ℕ, zero, suc, _+_, _-_, _*_, _≤_}
 use native.Mathlib.Omega.{arith}
 use lib.Dec.{leb, eqb}
-use lib.ListN.{length, take, drop, replicate, length-drop, length-append, length-replicate}
-use Rattle.std.proofs.shelf.Lists.{append-assoc, take-append-le, drop-append-le}
+use lib.ListN.{length, take, drop, replicate, length-drop, length-append}
+use Rattle.std.proofs.shelf.Lists.{take-append-le, drop-append-le}
 use Rattle.std.proofs.shelf.Tests.{le-leb, leb-true, cases-eq, cond-true, cond-false}
 use Rattle.std.specs.declared.result.Result.the-variants.{Ok, Err}
 use Rattle.answer.specs.Told.{Told, granted, refused}
 use Rattle.formula.specs.Keeping.{kept}
-use Rattle.docket.specs.Bits.{bits, unpack, number}
-use Rattle.docket.specs.Entries.{Plain, asked, brings, padSize, sizeOf}
-use Rattle.docket.specs.Reading.{Reading, field, lawful, wordsAt, questionAt, answerAt, formulaAt, padAt, made, newAt, toldAt, recordAt, taskAt, entryAt, Standing, refusal, placedAt, readAt}
+use Rattle.docket.specs.Bits.{unpack, number}
+use Rattle.docket.specs.Entries.{Plain, asked, brings, padSize}
+use Rattle.docket.specs.Reading.{Reading, field, lawful, wordsAt, questionAt, answerAt, padAt, made, newAt, toldAt, recordAt, taskAt, entryAt, refusal, placedAt, readAt}
 use Rattle.docket.specs.Laws.{Missing-where-more-matters}
 use Rattle.docket.proofs.Rows.{length-unpack, unpack-append}
 use Rattle.docket.proofs.Placing.{at-entry}

@@ -1,16 +1,13 @@
 -- Two fields read as one.
-use mathlib.Core.Path.{_≡_, refl, sym, ap, subst, _∙_}
-use mathlib.Core.Bool.{Bool, true, false, cond}
+use mathlib.Core.Path.{_≡_, sym, ap, subst, _∙_}
 use mathlib.Core.List.{List, _++_}
 use mathlib.Core.Logic.{inl, inr}
 use Prim.Native.Nat.{ℕ, _+_, _*_, _/_, _%_, _^_, _<_, _≤_}
 use native.Mathlib.Omega.{arith}
-use lib.Dec.{leb}
 use lib.ListN.{length, take, drop, length-drop, length-append, take-append-drop}
 use Rattle.std.proofs.shelf.Bits.{shr-high, mod-low}
 use Rattle.std.proofs.shelf.Lists.{drop-drop, length-take-le, take-at, append-assoc}
 use Rattle.std.proofs.shelf.Tests.{le-leb, lt-leb, cases-lt, cond-true, cond-false}
-use Rattle.std.specs.declared.result.Result.the-variants.{Err}
 use Rattle.docket.specs.Bits.{number}
 use Rattle.docket.specs.Reading.{Reading, field}
 use Rattle.docket.proofs.Numbers.{Bits, Bits-take, Bits-drop, number-append, number-small}

@@ -1,5 +1,5 @@
 -- Fields and parts of an entry, one after another.
-use mathlib.Core.Path.{_≡_, refl, sym, ap, subst, _∙_}
+use mathlib.Core.Path.{_≡_, sym, ap, subst, _∙_}
 use mathlib.Core.List.{List, [], _∷_, _++_}
 use mathlib.Core.Bool.{Bool, true, false, cond}
 use Prim.Native.Nat.{ℕ, zero, suc, _+_, _-_, _*_, _^_, _<_, _≤_}
@@ -9,11 +9,11 @@ use lib.ListN.{length, take, drop, set, length-drop}
 use Rattle.std.proofs.shelf.Lists.{drop-drop, append-assoc, append-nil, take-more-set, length-take-le}
 use Rattle.std.proofs.shelf.Tests.{le-leb, lt-leb, eq-eqb, ne-eqb, cond-true, cond-false}
 use Rattle.std.specs.declared.result.Result.{Result}
-use Rattle.std.specs.declared.result.Result.the-variants.{Ok, Err}
+use Rattle.std.specs.declared.result.Result.the-variants.{Err}
 use Rattle.answer.specs.declared.Refusal.{Refusal}
 use Rattle.answer.specs.Told.{Told, granted, refused}
 use Rattle.formula.specs.Keeping.{kept}
-use Rattle.docket.specs.Bits.{bits, unpack, number}
+use Rattle.docket.specs.Bits.{bits, number}
 use Rattle.docket.specs.Entries.{asked, brings}
 use Rattle.docket.specs.Reading.{Reading, field, lawful, wordsAt, questionAt, answerAt, formulaAt, formulaSize, numberOf, Part}
 use Rattle.docket.proofs.Numbers.{number-bits}

@@ -2,7 +2,7 @@
 use mathlib.Core.Path.{_≡_, refl, sym, ap, subst, _∙_}
 use mathlib.Core.Bool.{true}
 use mathlib.Core.List.{List, [], _∷_, _++_}
-use Prim.Native.Nat.{ℕ, _+_, _*_, _^_, _<_}
+use Prim.Native.Nat.{ℕ, _+_, _<_}
 use native.Mathlib.Omega.{arith}
 use lib.Dec.{eqb}
 use lib.ListN.{length}
@@ -13,7 +13,7 @@ use Rattle.answer.specs.declared.Denial.the-variants.{NotCovered, OutsideMode, 
 use Rattle.answer.specs.declared.Refusal.{Refusal}
 use Rattle.answer.specs.declared.Refusal.the-variants.{LongList, LargeFormula, NoSuchNumber, LargeFigure, TaskState, RecordState, NoSuchManner, NotItsHand, NoFlow, LargeLabel, NotSeen, Denied, NoRoom, NotCarried, Missing, Unlawful, NoForm}
 use Rattle.answer.specs.declared.Answer.the-variants.{Refused}
-use Rattle.answer.specs.Told.{Told, granted, refused, told, groupOf}
+use Rattle.answer.specs.Told.{Told, refused, told, groupOf}
 use Rattle.docket.specs.Bits.{bits}
 use Rattle.docket.specs.Entries.{asked, brings, carriesAnswer, words, answerBits}
 use Rattle.docket.specs.Reading.{numberOf}

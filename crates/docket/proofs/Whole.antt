@@ -2,20 +2,19 @@
 use mathlib.Core.Path.{_≡_, refl, sym, ap, subst, _∙_}
 use mathlib.Core.List.{List, [], _∷_, _++_}
 use mathlib.Core.Bool.{Bool, true, false, cond, _&&_}
-use Prim.Native.Nat.{ℕ, zero, suc, _+_, _-_, _*_, _<_, _≤_}
+use Prim.Native.Nat.{ℕ, _+_, _-_, _*_, _<_, _≤_}
 use native.Mathlib.Omega.{arith}
-use lib.Dec.{leb, eqb, ltb}
+use lib.Dec.{eqb, ltb}
 use lib.ListN.{length, take, drop, length-drop, length-append, take-append-drop}
-use Rattle.std.specs.shelf.Lists.{All}
 use Rattle.std.proofs.shelf.Elements.{all-take, all-drop}
 use Rattle.std.proofs.shelf.Lists.{append-assoc, append-nil, take-at, drop-at, drop-drop, drop-all, length-take-le}
 use Rattle.std.proofs.shelf.Tests.{eqb-true, cond-true, cond-false, and-parts}
 use Rattle.std.specs.declared.result.Result.the-variants.{Ok, Err}
 use Rattle.answer.specs.Told.{Told, granted, refused}
-use Rattle.docket.specs.Bits.{bits, unpack}
-use Rattle.docket.specs.Entries.{Plain, asked, brings, carriesAnswer, carries, headSize, sizeOf, entryBits, entryBytes}
-use Rattle.docket.specs.Reading.{Reading, Standing, entry, over, refusal, entryAt, placedAt, readAt}
-use Rattle.docket.specs.Laws.{Bytes, Carried, Bytes-are-bits, Reads-back, Stood, Read-was-written, Told-apart, docketBytes, ReadsOn, Docket-reads-back, Docket-was-written}
+use Rattle.docket.specs.Bits.{unpack}
+use Rattle.docket.specs.Entries.{Plain, asked, brings, carriesAnswer, headSize, sizeOf, entryBits, entryBytes}
+use Rattle.docket.specs.Reading.{Reading, entry, over, refusal, entryAt, placedAt, readAt}
+use Rattle.docket.specs.Laws.{Carried, Bytes-are-bits, Reads-back, Read-was-written, Told-apart, docketBytes, ReadsOn, Docket-reads-back, Docket-was-written}
 use Rattle.docket.proofs.Rows.{length-unpack, unpack-append}
 use Rattle.docket.proofs.Numbers.{Bits-unpack}
 use Rattle.docket.proofs.Forth.{reads-back-bits, kept-small}

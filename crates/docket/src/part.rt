@@ -1,9 +1,8 @@
-ghost use mathlib.Core.Path.{_≡_};
 ghost use Prim.Native.Nat.{_≤_};
 ghost use Rattle.answer.specs.Told.{says, nothing};
 ghost use Rattle.formula.specs.Of.{clausesOf};
 ghost use Rattle.docket.specs.Bits.{unpack};
-ghost use Rattle.docket.specs.Entries.{answerSize, asked};
+ghost use Rattle.docket.specs.Entries.{answerSize};
 ghost use Rattle.docket.specs.Reading.{Part, Alone, answerAt, formulaAt, formulaSize};
 use crate::field::take_field;
 use answer::Denial;

@@ -1,7 +1,7 @@
 -- Clauses in bytes, one after another.
 use mathlib.Core.Path.{_≡_, refl, sym, ap, _∙_}
 use mathlib.Core.List.{List, [], _∷_, _++_}
-use Prim.Native.Nat.{ℕ, zero, suc, _+_, _*_, _/_, _<_, _≤_}
+use Prim.Native.Nat.{ℕ, _+_, _*_, _/_, _<_, _≤_}
 use native.Mathlib.Omega.{arith}
 use lib.ListN.{length, getD, take, drop, set}
 use Rattle.std.proofs.shelf.Lists.{append-assoc, append-nil, drop-more, drop-all, take-more, take-more-set, take-all, set-at, length-take-le}

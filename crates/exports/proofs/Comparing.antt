@@ -1,5 +1,5 @@
 -- Formulas from bytes compared.
-use mathlib.Core.Path.{_≡_, refl, sym, ap, subst, _∙_}
+use mathlib.Core.Path.{_≡_, sym, ap, subst, _∙_}
 use mathlib.Core.Bool.{Bool, true, false, cond, true≢false}
 use mathlib.Core.List.{List, []}
 use mathlib.Core.Logic.{inl, inr}
@@ -16,7 +16,7 @@ use Rattle.clause.specs.Reduced.{reduced}
 use Rattle.clause.proofs.Reduced.{alike-reduced}
 use Rattle.clause.proofs.Tests.{met-decides, within-is}
 use Rattle.formula.specs.Forms.{fits, fitting, reduces}
-use Rattle.exports.specs.Comparing.{clausesFrom, evenly, formulaFrom, Compared, no, yes, first, second, onFormula, compared}
+use Rattle.exports.specs.Comparing.{clausesFrom, evenly, formulaFrom, no, yes, first, second, onFormula, compared}
 
 never : (f vs : List ℕ) (q : ℕ) → granted f ≡ refused q vs → ⊥
 never f vs q e = let z : _≡_ {A = ℕ} 0 1 = cc in omega arith

@@ -1,5 +1,5 @@
 -- What the docket's reader gives to C.
-use mathlib.Core.List.{List, [], _∷_, _++_}
+use mathlib.Core.List.{List, _++_}
 use Prim.Native.Nat.{ℕ}
 use lib.ListN.{length, drop, replicate}
 use Rattle.std.specs.declared.option.Option.{Option}

@@ -1,7 +1,4 @@
 ghost use mathlib.Core.Path.{_≡_};
-ghost use mathlib.Core.List.{List};
-ghost use Prim.Native.Nat.{ℕ};
-ghost use lib.ListN.{length};
 ghost use Rattle.answer.specs.Told.{says, nothing, questionOf};
 ghost use Rattle.label.specs.declared.kind.Kind.{Kind};
 ghost use Rattle.formula.specs.Of.{clausesOf};

@@ -1,15 +1,15 @@
 -- Lists of clauses in kept form.
 use mathlib.Core.Path.{_≡_, refl, sym, ap, subst, _∙_}
-use mathlib.Core.Bool.{Bool, true, false, cond, not, _&&_}
+use mathlib.Core.Bool.{true, false, not}
 use mathlib.Core.List.{List, [], _∷_}
-use Prim.Native.Nat.{ℕ, zero, suc, _+_, _<_, _≤_}
+use Prim.Native.Nat.{ℕ, suc, _<_}
 use native.Mathlib.Omega.{arith}
 use mathlib.Core.Logic.{inl, inr}
 use lib.Bits.{bitAnd, and-le-l}
 use lib.Dec.{ltb, leb, eqb}
 use lib.ListN.{length, getD, take, length-take}
 use Rattle.std.specs.shelf.Lists.{All}
-use Rattle.std.proofs.shelf.Elements.{all-getD, all-from-getD}
+use Rattle.std.proofs.shelf.Elements.{all-from-getD}
 use Rattle.std.proofs.shelf.Tests.{and-parts, and-from, lt-ltb, ltb-true, le-leb, leb-true, eqb-true, eqb-false, ne-eqb, not-true, not-false, not-from-false, and-cases, and-left, cases-lt, cases-bool, cond-true, cond-false}
 use Rattle.std.proofs.shelf.Lists.{take-all, getD-take}
 use Rattle.std.specs.declared.option.Option.the-variants.{Some, None}

@@ -1,5 +1,4 @@
 ghost use mathlib.Core.Path.{_≡_};
-ghost use Rattle.formula.specs.Of.{clausesOf};
 ghost use Rattle.formula.specs.Keeping.{apart, apartAll, ordered, keeping, clausesIn, Kept-is-reduced};
 use super::Formula;
 

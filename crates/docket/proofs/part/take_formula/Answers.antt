@@ -1,10 +1,10 @@
 use borrow.Author.Needs.{needs}
 use native.Mathlib.Omega.{arith}
 use native.Mathlib.Nat.{sub-zero}
-use mathlib.Core.Path.{_≡_, sym, ap, _∙_}
+use mathlib.Core.Path.{ap, _∙_}
 use mathlib.Core.List.{List}
-use Prim.Native.Nat.{ℕ, _+_, _*_}
-use lib.ListN.{take, drop, replicate, length-set}
+use Prim.Native.Nat.{ℕ, _+_}
+use lib.ListN.{take, replicate, length-set}
 use Rattle.formula.specs.Of.{clausesOf}
 use Rattle.formula.specs.Keeping.{kept, keeping}
 use Rattle.formula.proofs.Keeping.{keeping-some, keeping-none}

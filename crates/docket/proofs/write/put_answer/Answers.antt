@@ -1,15 +1,14 @@
 use borrow.Author.Needs.{needs}
-use mathlib.Core.Path.{_≡_, sym, ap, subst, _∙_}
+use mathlib.Core.Path.{_≡_, sym, subst, _∙_}
 use mathlib.Core.Bool.{true}
-use mathlib.Core.List.{List, [], _∷_, _++_, append-nil}
-use Prim.Native.Nat.{ℕ}
+use mathlib.Core.List.{_++_}
 use Rattle.std.specs.declared.option.Option.the-variants.{Some, None}
 use Rattle.std.specs.declared.result.Result.{Result}
-use Rattle.std.specs.declared.result.Result.the-variants.{Ok, Err}
+use Rattle.std.specs.declared.result.Result.the-variants.{Err}
 use Rattle.answer.specs.declared.Refusal.{Refusal}
 use Rattle.answer.specs.Told.{says, nothing}
 use Rattle.docket.specs.Bits.{bits}
-use Rattle.docket.specs.Entries.{words, answerBits, carriesAnswer}
+use Rattle.docket.specs.Entries.{answerBits, carriesAnswer}
 use Rattle.docket.specs.Laws.{Sets, valuesOf}
 use Rattle.docket.proofs.Drawing.{drew-then, drew-as}
 use Rattle.docket.proofs.Telling.{refused-bits, refused-groups}

@@ -1,4 +1,3 @@
-use mathlib.Core.Path.{_≡_}
 use lib.ListN.{take}
 use Rattle.docket.specs.Entries.{words}
 use Rattle.docket.specs.Drawing.{Drew}

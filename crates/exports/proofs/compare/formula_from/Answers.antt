@@ -1,14 +1,12 @@
-use borrow.Author.Needs.{needs}
 use native.Mathlib.Omega.{arith}
 use native.Mathlib.Nat.{sub-zero}
 use mathlib.Core.Path.{_≡_, sym, ap, _∙_}
-use mathlib.Core.Bool.{Bool, true, cond}
 use mathlib.Core.List.{List, []}
-use Prim.Native.Nat.{ℕ, _*_, _/_, _%_, _≤_}
+use Prim.Native.Nat.{ℕ, _/_, _%_}
 use lib.Dec.{leb}
 use lib.ListN.{length, take, length-set}
 use Rattle.std.proofs.shelf.Tests.{cond-true, cond-false, eq-eqb, lt-leb}
-use Rattle.answer.specs.Told.{Told, refused}
+use Rattle.answer.specs.Told.{refused}
 use Rattle.formula.specs.Forms.{reduces}
 use Rattle.exports.specs.Comparing.{clausesFrom, evenly, formulaFrom}
 use Rattle.exports.proofs.Clauses.{length-clauses, stored, all-stored}

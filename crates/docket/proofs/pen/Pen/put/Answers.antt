@@ -1,9 +1,8 @@
-use borrow.Author.Needs.{needs}
 use native.Mathlib.Omega.{arith}
 use mathlib.Core.Path.{_≡_, refl, sym, ap, subst, _∙_}
 use mathlib.Core.List.{List, _++_}
-use Prim.Native.Nat.{ℕ, _+_, _-_, _*_, _/_, _%_, _^_, _<_, _≤_}
-use lib.ListN.{length, take, set}
+use Prim.Native.Nat.{ℕ, _+_, _-_, _*_, _/_, _%_, _^_, _<_}
+use lib.ListN.{take, set}
 use Rattle.std.proofs.shelf.Bits.{one-shl, shr-below, mod-below, pow-pos}
 use Rattle.std.proofs.shelf.Lists.{append-assoc}
 use Rattle.docket.specs.Bits.{bits, unpack}
