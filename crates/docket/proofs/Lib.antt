@@ -7,7 +7,7 @@ mod Entering
 mod Placing
 mod Forth
 mod Back
-mod Packing
+pub mod Packing
 mod Whole
 mod Settles
 mod Filing
