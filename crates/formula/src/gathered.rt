@@ -44,7 +44,7 @@ impl Gathered {
 
     /// The clauses of both.
     pub(crate) fn both(a: &[u16], b: &[u16]) -> Gathered
-        requires { ⌜ length (now a) + length (now b) ≤ 64 ⌝ }
+        requires { ⌜ (length (now a) ≤ 8) × (length (now b) ≤ 8) ⌝ }
         ensures { λ r. ⌜ take (r .count) (r .clauses) ≡ now (a .entry) ++ now (b .entry) ⌝ }
     {
         let mut list = Gathered::new();
