@@ -1,12 +1,13 @@
 ghost use mathlib.Core.Path.{_≡_};
 ghost use Prim.Native.Nat.{_+_, _<_};
-ghost use lib.ListN.{length, take, drop};
+ghost use lib.ListN.{length, take};
+ghost use Rattle.std.specs.Holes.{between};
 ghost use Rattle.words.specs.Parted.{Cut, Parts-join};
 
 /// What stands before the byte at `i`, and what stands behind it.
 fn around(row: &[u8], i: usize) -> (&[u8], &[u8])
     requires { ⌜ i < length (now row) ⌝ }
-    ensures { λ r. ⌜ (now (r .0) ≡ take i (now (row .entry))) × (now (r .1) ≡ drop (i + 1) (now (row .entry))) ⌝ }
+    ensures { λ r. ⌜ (now (r .0) ≡ take i (now (row .entry))) × (now (r .1) ≡ between (i + 1) (length (now (row .entry))) (now (row .entry))) ⌝ }
 {
     (&row[..i], &row[i + 1..])
 }
