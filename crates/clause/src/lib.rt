@@ -4,32 +4,53 @@ mod reduce;
 
 pub use reduce::contains_one;
 pub use reduce::least_beside;
-ghost use Rattle.clause.specs.Meaning.{Meets, Implies, BothImply, ImpliesEither};
+ghost use mathlib.Core.Path.{_≡_};
+ghost use Prim.Native.Nat.{_-_};
+ghost use lib.Bits.{bitOr};
+ghost use Rattle.clause.specs.Meaning.{Shares, Meets, Implies, BothImply, ImpliesEither};
 ghost use Rattle.std.specs.Orderings.{Decides};
+
+/// Tells whether the two have a party in common.
+fn shares(clause: u16, group: u16) -> bool
+    ensures { λ r. ⌜ Decides r (Shares clause group) ⌝ }
+{
+    clause & group != 0
+}
+
+/// The largest group that misses both clauses.
+fn outside(x: u16, y: u16) -> u16
+    ensures { λ r. ⌜ r ≡ 65535 - bitOr x y ⌝ }
+{
+    !(x | y)
+}
 
 /// Tells whether `group` shares a party with each of the clauses.
 pub fn meets(clauses: &[u16], group: u16) -> bool
     ensures { λ r. ⌜ Decides r (Meets (now (clauses .entry)) group) ⌝ }
 {
     for &clause in clauses {
-        if clause & group == 0 {
+        if !shares(clause, group) {
             return false;
         }
     }
     true
 }
 
+/// Tells whether `group` meets both lists.
+pub fn meets_both(a: &[u16], b: &[u16], group: u16) -> bool
+    ensures { λ r. ⌜ Decides r (Meets (now (a .entry)) group × Meets (now (b .entry)) group) ⌝ }
+{
+    meets(a, group) && meets(b, group)
+}
+
 /// Tells whether every group that meets `first` meets `second`.
 pub fn implies(first: &[u16], second: &[u16]) -> bool
     ensures { λ r. ⌜ Decides r (Implies (now (first .entry)) (now (second .entry))) ⌝ }
 {
-    'sought: for &wide in second {
-        for &narrow in first {
-            if narrow & wide == narrow {
-                continue 'sought;
-            }
+    for &clause in second {
+        if !contains_one(clause, first) {
+            return false;
         }
-        return false;
     }
     true
 }
@@ -41,7 +62,7 @@ pub fn both_imply(a: &[u16], b: &[u16], goal: &[u16]) -> bool
     for &clause in goal {
         // the largest group that misses the clause
         let others = !clause;
-        if meets(a, others) && meets(b, others) {
+        if meets_both(a, b, others) {
             return false;
         }
     }
@@ -54,7 +75,7 @@ pub fn implies_either(first: &[u16], a: &[u16], b: &[u16]) -> bool
 {
     for &x in a {
         for &y in b {
-            if meets(first, !(x | y)) {
+            if meets(first, outside(x, y)) {
                 return false;
             }
         }

@@ -1,3 +1,7 @@
+ghost use mathlib.Core.Path.{_≡_};
+ghost use Rattle.std.specs.Orderings.{Decides};
+ghost use Rattle.clause.specs.Groups.{met};
+ghost use Rattle.clause.specs.Meaning.{Implies, ImpliesEither};
 ghost use Rattle.formula.specs.Of.{clausesOf};
 ghost use Rattle.formula.specs.Forms.{either as eitherOf, fits as fitsEight};
 ghost use Rattle.label.specs.Marks.{Group, handTouches};
@@ -11,6 +15,29 @@ use formula::Formula;
 #[derive(Clone, Copy)]
 pub struct Hand(pub Formula);
 
+impl Hand {
+    /// Tells whether `group` has a hand.
+    pub(crate) fn has(&self, group: u16) -> bool
+        ensures { λ r. ⌜ r ≡ met (clausesOf (now (self .entry) .0)) group ⌝ }
+    {
+        self.0.meets(group)
+    }
+
+    /// Tells whether every group with a hand by this has one by `other`.
+    fn kept_by(&self, other: &Hand) -> bool
+        ensures { λ r. ⌜ Decides r (Implies (clausesOf (now (self .entry) .0)) (clausesOf (now (other .entry) .0))) ⌝ }
+    {
+        self.0.implies(other.0)
+    }
+
+    /// Tells whether every group with a hand by this has one by `a` or by `b`.
+    fn kept_by_either(&self, a: &Hand, b: &Hand) -> bool
+        ensures { λ r. ⌜ Decides r (ImpliesEither (clausesOf (now (self .entry) .0)) (clausesOf (now (a .entry) .0)) (clausesOf (now (b .entry) .0))) ⌝ }
+    {
+        self.0.implies_either(a.0, b.0)
+    }
+}
+
 pub impl Compare for Hand as HandCompare {
     ghost onlooker = { Group };
 
@@ -19,11 +46,11 @@ pub impl Compare for Hand as HandCompare {
     ghost touches = { handTouches };
 
     fn covered_by(&self, other: &Hand) -> bool {
-        self.0.implies(other.0)
+        self.kept_by(other)
     }
 
     fn covered_by_two(&self, a: &Hand, b: &Hand) -> bool {
-        self.0.implies_either(a.0, b.0)
+        self.kept_by_either(a, b)
     }
 }
 

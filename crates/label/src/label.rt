@@ -1,16 +1,12 @@
+mod sides;
+
 ghost use mathlib.Core.Path.{_≡_};
 ghost use Rattle.formula.specs.Of.{clausesOf};
 ghost use Rattle.label.specs.Labels.{labelled, sees, handed, flows, covered, relabelled, JoinedLabel};
 ghost use Rattle.label.specs.Order.{Flows-by-groups, Flows-order, Join-least};
-use crate::Compare;
 use crate::Hand;
-use crate::HandCompare;
-use crate::HandJoin;
 use crate::Kind;
 use crate::Sight;
-use crate::SightCompare;
-use crate::SightJoin;
-use crate::join_marks;
 use answer::Refusal;
 use formula::Formula;
 
@@ -26,14 +22,14 @@ impl Label {
     pub fn sees(&self, group: u16) -> bool
         ensures { λ r. ⌜ r ≡ sees (labelled (now (self .entry))) group ⌝ }
     {
-        self.sight.0.meets(group)
+        self.sight.sees(group)
     }
 
     /// Tells whether `group` has a hand in what has this label.
     pub fn has_hand(&self, group: u16) -> bool
         ensures { λ r. ⌜ r ≡ handed (labelled (now (self .entry))) group ⌝ }
     {
-        self.hand.0.meets(group)
+        self.hand.has(group)
     }
 
     /// Tells whether each mark is covered by the other label's.
@@ -42,14 +38,14 @@ impl Label {
         ensures groups { λ _. ⌜ Flows-by-groups ⌝ }
         ensures order { λ _. ⌜ Flows-order ⌝ }
     {
-        self.sight.covered_by(&other.sight) && self.hand.covered_by(&other.hand)
+        self.sight_flows(other) && self.hand_flows(other)
     }
 
     /// Tells whether each mark is covered by those of the two labels together.
     pub fn covered_by_two(&self, a: &Label, b: &Label) -> bool
         ensures { λ r. ⌜ r ≡ covered (labelled (now (self .entry))) (labelled (now (a .entry))) (labelled (now (b .entry))) ⌝ }
     {
-        self.sight.covered_by_two(&a.sight, &b.sight) && self.hand.covered_by_two(&a.hand, &b.hand)
+        self.sight_covered(a, b) && self.hand_covered(a, b)
     }
 
     /// The least label that both flow to, if each side keeps to its size.
@@ -57,10 +53,11 @@ impl Label {
         ensures answer { λ r. ⌜ JoinedLabel (labelled (now (self .entry))) (labelled (now (other .entry))) r ⌝ }
         ensures least { λ _. ⌜ Join-least ⌝ }
     {
-        let sight = join_marks(&self.sight, &other.sight)?;
-        let hand = join_marks(&self.hand, &other.hand)?;
+        let sight = self.joined_sight(other)?;
+        let hand = self.joined_hand(other)?;
         Ok(Label { sight, hand })
     }
+
     /// The label with the one formula replaced.
     pub fn relabel(&self, kind: Kind, new: Formula) -> Label
         ensures { λ r. ⌜ labelled r ≡ relabelled kind (labelled (now (self .entry))) (clausesOf new) ⌝ }

@@ -2,16 +2,17 @@
 //! through the groups: at most 8 · 17 · 16 clause tests where each list has at most 8 clauses.
 ghost use mathlib.Core.Path.{_≡_};
 ghost use mathlib.Core.Bool.{not, _&&_};
-ghost use Rattle.std.specs.Orderings.{Decides};
-ghost use Rattle.clause.specs.Meaning.{Meets};
+ghost use Prim.Native.Nat.{_-_, _^_, _<_};
+ghost use lib.Bits.{bitAnd};
 ghost use Rattle.clause.specs.Groups.{met, lowest, earlier as earlierOf};
 ghost use Rattle.lowest.specs.First.{First, Fitting, Missing};
 
-/// Tells whether `group` meets each of both lists.
-fn meets_both(needs: &[u16], more: &[u16], group: u16) -> bool
-    ensures { λ r. ⌜ Decides r (Meets (now (needs .entry)) group × Meets (now (more .entry)) group) ⌝ }
+/// The group without one party.
+fn without(group: u16, party: u32) -> u16
+    requires { ⌜ party < 16 ⌝ }
+    ensures { λ r. ⌜ r ≡ bitAnd group (65535 - 2 ^ party) ⌝ }
 {
-    clause::meets(needs, group) && clause::meets(more, group)
+    group & !(1 << party)
 }
 
 /// The lowest group inside `allowed` that meets each of both lists. A larger group meets what a
@@ -19,15 +20,15 @@ fn meets_both(needs: &[u16], more: &[u16], group: u16) -> bool
 fn lowest_within(allowed: u16, needs: &[u16], more: &[u16]) -> Option<u16>
     ensures { λ r. ⌜ First (Fitting allowed (now (needs .entry)) (now (more .entry))) r ⌝ }
 {
-    if !meets_both(needs, more, allowed) {
+    if !clause::meets_both(needs, more, allowed) {
         return None;
     }
     let mut group = allowed;
     let mut party: u32 = 16;
     while party > 0 {
         party -= 1;
-        let rest = group & !(1 << party);
-        if meets_both(needs, more, rest) {
+        let rest = without(group, party);
+        if clause::meets_both(needs, more, rest) {
             group = rest;
         }
     }

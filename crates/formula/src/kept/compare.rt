@@ -8,27 +8,35 @@ impl Formula {
     pub fn meets(self, group: u16) -> bool
         ensures { λ r. ⌜ Decides r (Meets (clausesOf self) group) ⌝ }
     {
-        clause::meets(self.as_slice(), group)
+        clause::meets(&self.clauses[..self.count], group)
     }
 
     /// Tells whether every group that meets this formula meets `other`.
     pub fn implies(self, other: Formula) -> bool
         ensures { λ r. ⌜ Decides r (Implies (clausesOf self) (clausesOf other)) ⌝ }
     {
-        clause::implies(self.as_slice(), other.as_slice())
+        clause::implies(&self.clauses[..self.count], &other.clauses[..other.count])
     }
 
     /// Tells whether every group that meets this formula and `other` meets `goal`.
     pub fn both_imply(self, other: Formula, goal: Formula) -> bool
         ensures { λ r. ⌜ Decides r (BothImply (clausesOf self) (clausesOf other) (clausesOf goal)) ⌝ }
     {
-        clause::both_imply(self.as_slice(), other.as_slice(), goal.as_slice())
+        clause::both_imply(
+            &self.clauses[..self.count],
+            &other.clauses[..other.count],
+            &goal.clauses[..goal.count],
+        )
     }
 
     /// Tells whether every group that meets this formula meets `a` or `b`.
     pub fn implies_either(self, a: Formula, b: Formula) -> bool
         ensures { λ r. ⌜ Decides r (ImpliesEither (clausesOf self) (clausesOf a) (clausesOf b)) ⌝ }
     {
-        clause::implies_either(self.as_slice(), a.as_slice(), b.as_slice())
+        clause::implies_either(
+            &self.clauses[..self.count],
+            &a.clauses[..a.count],
+            &b.clauses[..b.count],
+        )
     }
 }

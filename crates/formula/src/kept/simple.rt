@@ -26,10 +26,7 @@ impl Formula {
         ensures clauses { λ r. ⌜ clausesOf r ≡ 0 ∷ [] ⌝ }
         ensures means { λ r. ⌜ Means (clausesOf r) (λ _. ⊥) ⌝ }
     {
-        Formula {
-            clauses: [0; 8],
-            count: 1,
-        }
+        Formula::of_clause(0)
     }
 
     /// The formula that the groups with this party meet.
@@ -38,8 +35,15 @@ impl Formula {
         ensures means { λ r. ⌜ Means (clausesOf r) (λ group. Member (party .number) group) ⌝ }
         ensures sharing { λ _. ⌜ Sharing ⌝ }
     {
+        Formula::of_clause(party.alone())
+    }
+
+    /// The formula of one clause.
+    fn of_clause(clause: u16) -> Formula
+        ensures { λ r. ⌜ clausesOf r ≡ clause ∷ [] ⌝ }
+    {
         let mut clauses = [0; 8];
-        clauses[0] = party.alone();
+        clauses[0] = clause;
         Formula { clauses, count: 1 }
     }
 

@@ -1,9 +1,7 @@
-use Prim.Native.Nat.{ℕ, _+_, _-_, _*_, _%_, _^_, _<_}
-use mathlib.Core.Path.{_≡_, refl, sym, subst, ap}
+use Prim.Native.Nat.{ℕ, _+_, _-_, _<_}
+use mathlib.Core.Path.{_≡_, refl, sym, subst}
 use native.Mathlib.Omega.{arith}
-use lib.Bits.{bitAnd}
 use Rattle.std.proofs.shelf.Tests.{false≢true}
-use Rattle.std.proofs.shelf.Bits.{one-shl}
 use Rattle.clause.specs.Meaning.{Meets}
 use Rattle.lowest.proofs.Choosing.{grows-both}
 use Rattle.lowest.proofs.Narrowing.{Narrowed, narrow-start, narrow-leave, narrow-stay, narrow-end}
@@ -23,12 +21,12 @@ loop-party-again-then-meets-both c =
     let p = c .loop-party .party in
     let k : ℕ = p - 1 in
     let h : k < 16 = omega arith in
-    let bit = one-shl k 16 h in
+    let rest = c .without-rest .ensures in
     let e : p ≡ k + 1 = omega arith in
     let n : Narrowed a P (k + 1) g = subst (λ x. Narrowed a P x g) e (c .loop-party .inv .1) in (
       omega arith,
-      subst (λ x. Narrowed a P k (bitAnd g (65535 - x))) (sym bit)
-          (narrow-leave a P (grows-both (c .args .needs .now) (c .args .more .now)) g k h n (subst (λ x. P (bitAnd g (65535 - x))) bit (c .if-meets-both .ensures tt .0 refl))),
+      subst (Narrowed a P k) (sym rest)
+          (narrow-leave a P (grows-both (c .args .needs .now) (c .args .more .now)) g k h n (subst P rest (c .if-meets-both .ensures tt .0 refl))),
     )
 
 pub loop-party-again : need.loop-party-again
@@ -39,11 +37,11 @@ loop-party-again c =
     let p = c .loop-party .party in
     let k : ℕ = p - 1 in
     let h : k < 16 = omega arith in
-    let bit = one-shl k 16 h in
+    let rest = c .without-rest .ensures in
     let e : p ≡ k + 1 = omega arith in
     let n : Narrowed a P (k + 1) g = subst (λ x. Narrowed a P x g) e (c .loop-party .inv .1) in (
       omega arith,
-      narrow-stay a P (grows-both (c .args .needs .now) (c .args .more .now)) g k h n (λ m. false≢true (c .if-meets-both .ensures tt .1 (subst (λ x. P (bitAnd g (65535 - x))) (sym bit) m))),
+      narrow-stay a P (grows-both (c .args .needs .now) (c .args .more .now)) g k h n (λ m. false≢true (c .if-meets-both .ensures tt .1 (subst P (sym rest) m))),
     )
 
 pub returns : need.returns

@@ -1,13 +1,13 @@
 use borrow.Author.Needs.{needs}
 use native.Mathlib.Omega.{arith}
-use mathlib.Core.Path.{_≡_, refl, sym, ap, _∙_}
+use mathlib.Core.Path.{_≡_, refl, sym, ap, subst, _∙_}
 use mathlib.Core.List.{List, _∷_, _++_}
-use Prim.Native.Nat.{ℕ, _+_, _-_, _<_}
+use Prim.Native.Nat.{ℕ, _+_, _<_}
 use native.Mathlib.Numerals.{add-one}
-use native.Mathlib.Nat.{sub-zero}
 use lib.ListN.{length, getD, take, drop, length-take}
 use lib.Seq.{split-at, getD-take}
 use Rattle.std.proofs.shelf.Parts.{between-to-end}
+use Rattle.words.specs.Parted.{Without}
 use Rattle.words.proofs.Gather.{parts-join}
 use Rattle.words.proofs.parting.cut.Needs as need
 
@@ -18,16 +18,17 @@ returns-then-byte-sep c =
     let i = c .loop-i .i in
     let h : i < length xs = search needs in
     let b : getD xs i 0 ≡ s = search needs in
-    let z : i - 0 ≡ i = omega arith in
-    let l = length-take (i - 0) xs in
+    let l = length-take i xs in
+    let before = sym (c .around .ensures .0) in
+    let behind = sym (between-to-end xs (i + 1) (length xs) (omega arith)) ∙ sym (c .around .ensures .1) in
     record {
       parts = (
         split-at xs i 0 h
             ∙ (ap (λ (k : ℕ). take i xs ++ (getD xs i 0 ∷ drop k xs)) (sym (add-one i))
             ∙ (ap (λ (x : ℕ). take i xs ++ (x ∷ drop (i + 1) xs)) b
-            ∙ (ap (λ (k : ℕ). take k xs ++ (s ∷ drop (i + 1) xs)) (sym z)
-            ∙ ap (λ (r : List ℕ). take (i - 0) xs ++ (s ∷ r)) (sym (between-to-end xs (i + 1) (length xs) (omega arith)))))),
-        λ k lt e. c .loop-i .inv k (omega (arith, l, lt)) (sym (getD-take (i - 0) xs k 0 (omega (arith, l, lt))) ∙ e),
+            ∙ (ap (λ (r : List ℕ). take i xs ++ (s ∷ r)) behind
+            ∙ ap (λ (w : List ℕ). w ++ (s ∷ c .around .result .1 .now)) before))),
+        subst (Without s) before (λ k lt e. c .loop-i .inv k (omega (arith, l, lt)) (sym (getD-take i xs k 0 (omega (arith, l, lt))) ∙ e)),
       );
       joins = parts-join;
     }

@@ -1,5 +1,5 @@
-use mathlib.Core.Path.{ap, subst, sym}
-use mathlib.Core.List.{_∷_, []}
+use mathlib.Core.Path.{_∙_, ap, subst, sym}
+use mathlib.Core.List.{List, _∷_, []}
 use Prim.Native.Nat.{ℕ, _^_}
 use Rattle.clause.specs.Meaning.{Means}
 use Rattle.clause.specs.Parties.{Member}
@@ -11,8 +11,9 @@ returns c =
     let k = c .args .party .number in
     let one : Means (2 ^ k ∷ []) (Member k) =
     λ g h. (λ m. one-party k g (c .args .party .known) h .0 (m .0), λ m. (one-party k g (c .args .party .known) h .1 m, tt)) in
+    let clauses = c .of-clause .ensures ∙ ap (λ (x : ℕ). x ∷ []) (c .alone .ensures) in
     record {
-      clauses = ap (λ (x : ℕ). x ∷ []) (c .alone .ensures);
-      means = subst (λ (x : ℕ). Means (x ∷ []) (Member k)) (sym (c .alone .ensures)) one;
+      clauses = clauses;
+      means = subst (λ (l : List ℕ). Means l (Member k)) (sym clauses) one;
       sharing = parties;
     }

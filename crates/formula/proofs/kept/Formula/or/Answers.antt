@@ -1,20 +1,19 @@
-use Prim.Native.Nat.{ℕ, _<_}
-use mathlib.Core.Path.{_∙_, sym, ap, subst}
+use mathlib.Core.Path.{_∙_, ap}
+use mathlib.Core.List.{[], _∷_, _++_}
 use native.Mathlib.Omega.{arith}
-use lib.ListN.{getD, take, length}
+use lib.ListN.{getD}
 use Rattle.std.proofs.shelf.Lists.{take-all}
 use Rattle.clause.specs.Unions.{unions}
-use Rattle.clause.specs.Meaning.{Means, Meets}
 use Rattle.clause.proofs.Joining.{means-unions}
 use Rattle.clause.specs.Reduced.{reduced}
 use Rattle.formula.specs.Of.{clausesOf}
 use Rattle.formula.specs.Forms.{fitting}
-use Rattle.formula.proofs.Gathering.{formed-as, more-mapped, more-rows}
+use Rattle.formula.proofs.Gathering.{gathered, formed-as, more-mapped, more-rows}
 use Rattle.formula.proofs.kept.Formula.or.Needs as need
 
 pub loop-second-again : need.loop-second-again
 loop-second-again c = (
-  c .push .ensures .items ∙ more-mapped _ _ (c .as-slice-theirs .result .now) (getD (c .as-slice-ours .result .now) (c .loop-first .first-index) 0) (c .loop-second .second-index) (c .loop-second-test .taken) (c .loop-second .inv .0),
+  c .push .ensures .items ∙ ap (λ x. gathered (c .loop-second .list) ++ x ∷ []) (c .union .ensures) ∙ more-mapped _ _ (c .as-slice-theirs .result .now) (getD (c .as-slice-ours .result .now) (c .loop-first .first-index) 0) (c .loop-second .second-index) (c .loop-second-test .taken) (c .loop-second .inv .0),
   omega arith,
 )
 

@@ -2,4 +2,4 @@ use Rattle.label.proofs.Tests.{hand-covered}
 use Rattle.label.proofs.hand.HandCompare.covered_by.Needs as need
 
 pub returns : need.returns
-returns c = hand-covered _ _ _ (c .implies .ensures)
+returns c = hand-covered _ _ _ (c .kept-by .ensures)

@@ -5,17 +5,17 @@ use Rattle.label.specs.Labels.{labelled, unseeing, handed}
 use Rattle.label.proofs.Tests.{covered-within}
 use Rattle.label.proofs.label.Label.covered_by_two.Needs as need
 
-pub returns-then-covered-by-two : need.returns-then-covered-by-two
-returns-then-covered-by-two c =
+pub returns-then-sight-covered : need.returns-then-sight-covered
+returns-then-sight-covered c =
     let l = labelled (c .args .self .now) in
     let a = labelled (c .args .a .now) in
     let b = labelled (c .args .b .now) in
-    and-yes _ _ _ (same-from-decides _ _ (c .if-covered-by-two .ensures tt) (covered-within (unseeing l) (λ g. unseeing a g || unseeing b g)))
-    (same-from-decides _ _ (c .covered-by-two-then-covered-by-two .ensures) (covered-within (handed l) (λ g. handed a g || handed b g)))
+    and-yes _ _ _ (same-from-decides _ _ (c .if-sight-covered .ensures tt) (covered-within (unseeing l) (λ g. unseeing a g || unseeing b g)))
+    (same-from-decides _ _ (c .hand-covered .ensures) (covered-within (handed l) (λ g. handed a g || handed b g)))
 
-pub returns-else-covered-by-two : need.returns-else-covered-by-two
-returns-else-covered-by-two c =
+pub returns-else-sight-covered : need.returns-else-sight-covered
+returns-else-sight-covered c =
     let l = labelled (c .args .self .now) in
     let a = labelled (c .args .a .now) in
     let b = labelled (c .args .b .now) in
-    and-no _ _ _ (same-from-decides _ _ (c .if-covered-by-two .ensures tt) (covered-within (unseeing l) (λ g. unseeing a g || unseeing b g))) (c .if-covered-by-two .left)
+    and-no _ _ _ (same-from-decides _ _ (c .if-sight-covered .ensures tt) (covered-within (unseeing l) (λ g. unseeing a g || unseeing b g))) (c .if-sight-covered .left)

@@ -5,23 +5,23 @@ use Rattle.label.proofs.Tests.{covered-within}
 use Rattle.label.proofs.Order.{flows-by-groups, flows-order}
 use Rattle.label.proofs.label.Label.flows_to.Needs as need
 
-pub returns-then-covered-by : need.returns-then-covered-by
-returns-then-covered-by c =
+pub returns-then-sight-flows : need.returns-then-sight-flows
+returns-then-sight-flows c =
     let a = labelled (c .args .self .now) in
     let b = labelled (c .args .other .now) in
     record {
-      answer = and-yes _ _ _ (same-from-decides _ _ (c .if-covered-by .ensures tt) (covered-within (unseeing a) (unseeing b)))
-          (same-from-decides _ _ (c .covered-by-then-covered-by .ensures) (covered-within (handed a) (handed b)));
+      answer = and-yes _ _ _ (same-from-decides _ _ (c .if-sight-flows .ensures tt) (covered-within (unseeing a) (unseeing b)))
+          (same-from-decides _ _ (c .hand-flows .ensures) (covered-within (handed a) (handed b)));
       groups = flows-by-groups;
       order = flows-order;
     }
 
-pub returns-else-covered-by : need.returns-else-covered-by
-returns-else-covered-by c =
+pub returns-else-sight-flows : need.returns-else-sight-flows
+returns-else-sight-flows c =
     let a = labelled (c .args .self .now) in
     let b = labelled (c .args .other .now) in
     record {
-      answer = and-no _ _ _ (same-from-decides _ _ (c .if-covered-by .ensures tt) (covered-within (unseeing a) (unseeing b))) (c .if-covered-by .left);
+      answer = and-no _ _ _ (same-from-decides _ _ (c .if-sight-flows .ensures tt) (covered-within (unseeing a) (unseeing b))) (c .if-sight-flows .left);
       groups = flows-by-groups;
       order = flows-order;
     }

@@ -8,8 +8,8 @@ pub returns : need.returns
 returns c =
     let a = c .args .self .now in
     let b = c .args .other .now in
-    let same = simp (c .as-slice .ensures .is, c .as-slice-2 .ensures .is) at (matches-decides _ _ _ (c .eq .ensures)) in (
+    let same = matches-decides (clausesOf a) (clausesOf b) _ (c .same-clauses .ensures) in (
       same,
-      decides-like (c .eq .result) (alike-itself (clausesOf a) (clausesOf b))
+      decides-like (c .same-clauses .result) (alike-itself (clausesOf a) (clausesOf b))
           (take-same (a .clauses) (b .clauses) (a .count) (b .count) (a .fits) (b .fits) (a .rising) (a .apart) (b .rising) (b .apart)) same,
     )
