@@ -12,6 +12,15 @@ use std::error::AnyError;
 use std::fs;
 use std::io::Write;
 
+const HELP: &str = "docketview prints docket files, one entry a line:
+
+    docketview FILE...
+
+    PLACE KIND TASK RECORD ANSWER FORMULA
+
+Where the bytes are damaged it prints PLACE damaged QUESTION, stops, and ends with status 1.
+";
+
 /// Adds a formula as on paper: its clauses joined by full stops, or T.
 fn add_formula(text: &mut String, formula: Formula) -> Result<(), AnyError> {
     let clauses = formula.as_slice();
@@ -85,6 +94,10 @@ fn show_file(rt: &LibcRuntime, name: &str) -> Result<(), AnyError> {
 fn start(rt: &LibcRuntime) -> Result<(), AnyError> {
     let mut shown = 0u64;
     for name in env::args(rt)?.skip(1) {
+        if name.as_str() == "--help" {
+            print!(rt, "{HELP}")?;
+            return Ok(());
+        }
         show_file(rt, name.as_str())?;
         shown = shown.saturating_add(1);
     }

@@ -51,11 +51,12 @@ module _ (e : Plain) (few : length (e .new) ≤ 8) (zs bytes : List ℕ) (room :
   filed-ok next g =
       elim (cases-bool (carries e)) [
         | inl c ↦
-            let same : next ≡ 0 + sizeOf e = let h = g ∙ granted-so c in cc in
-            (omega (arith, same, small c),
-            ap (λ (b : List ℕ). take next b) (written-so c)
-            ∙ take-at (entryBytes e) (drop (0 + sizeOf e) zs) next (length-packed (sizeOf e) (entryBits e) ∙ omega (arith, same))
-            ∙ sym (cond-true (carries e) (entryBytes e) [] c))
+            let same : next ≡ 0 + sizeOf e = let h = g ∙ granted-so c in cc in (
+              omega (arith, same, small c),
+              ap (λ (b : List ℕ). take next b) (written-so c)
+                  ∙ take-at (entryBytes e) (drop (0 + sizeOf e) zs) next (length-packed (sizeOf e) (entryBits e) ∙ omega (arith, same))
+                  ∙ sym (cond-true (carries e) (entryBytes e) [] c),
+            )
         | inr c ↦ absurd (let h : true ≡ false = ap isGranted (g ∙ cond-false _ _ _ c) in let z : _≡_ {A = ℕ} 0 1 = cc in omega arith)
       ]
 

@@ -31,10 +31,16 @@ pub fn entry_of(line: &[u8], answer: Answer) -> Option<Entry>
     let answer = verdict_of(answer);
     match parse(line)? {
         Call::Release {
-            task, record, new, ..
+            task,
+            record,
+            new,
+            ..
         } => entry_with(Kind::Release, task, record, answer, new),
         Call::Endorse {
-            task, record, new, ..
+            task,
+            record,
+            new,
+            ..
         } => entry_with(Kind::Endorse, task, record, answer, new),
         _ => None,
     }

@@ -24,7 +24,7 @@ use Rattle.label.proofs.Order.{flows-by-groups}
 use Rattle.key.specs.declared.mode.Mode.{Mode}
 use Rattle.key.specs.Requests.{Asked, Limits}
 use Rattle.key.specs.Meanings.{Verdict, Meaning, grant, passing, plain, plainCovers, covers, gains, steers, steersKind, unlessSteered, robust, robustSays, bounded, boundedSays}
-use Rattle.key.specs.Laws.{Sees, HasHand, Everybody, Nobody, Gains, Steers, SteersKind, PlainGrants, Plain-law, Robust-law, Flows, CoveredByBoth, BelowHigh, AboveLow, Bounded-law, Key-laws, Over-robust, itself, wrapped, Releases-robustly, Over-robust-law}
+use Rattle.key.specs.Laws.{Sees, HasHand, Everybody, Nobody, Gains, Steers, SteersKind, PlainGrants, Plain-law, Robust-law, Flows, CoveredByBoth, BelowHigh, AboveLow, Bounded-law, Key-laws, Over-robust, itself, wrapped, elsewhere, Releases-robustly, Over-robust-law}
 
 -- a denial is no grant
 never : (d : Denial) {X : Type 0} → Err d ≡ grant → X
@@ -164,3 +164,4 @@ bounded-releases m b below law r kind e = law r kind (passing-grants (below r) _
 pub over-robust-law : Over-robust-law
 over-robust-law _ (itself m below) = robust-releases m below
 over-robust-law _ (wrapped m b below o) = bounded-releases m b below (over-robust-law below o)
+over-robust-law _ (elsewhere k shown) = shown

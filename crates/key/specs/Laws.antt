@@ -87,15 +87,17 @@ pub record Key-laws : Type 0 where
   pub robust : (m : Mode) (below : Meaning) (r : Asked) → Robust-law m below r
   pub bounded : (m : Mode) (b : Limits) (below : Meaning) (r : Asked) → Bounded-law m b below r
 
--- the keys whose releases are robust: a robust wrap over any key, or a wrap over such a key
-pub data Over-robust : Meaning → Type 0 where
-  itself : (m : Mode) (below : Meaning) → Over-robust (robust m below)
-  wrapped : (m : Mode) (b : Limits) (below : Meaning) → Over-robust below → Over-robust (bounded m b below)
-
--- a robust release lets in no group that has a hand in the record or in the task
+-- each release that the key grants lets in no group with a hand in the record or in the task
 abbrev pub Releases-robustly : Meaning → Type 0
 Releases-robustly k =
     (r : Asked) → r .kind ≡ Release → k r ≡ grant → Nobody (λ g. Gains r g × (HasHand (r .held) g ⊎ HasHand (r .task) g))
+
+-- the keys whose releases are robust: a robust wrap over any key, a wrap over such a key at any depth,
+-- and a key from elsewhere that brings the proof
+pub data Over-robust : Meaning → Type 0 where
+  itself : (m : Mode) (below : Meaning) → Over-robust (robust m below)
+  wrapped : (m : Mode) (b : Limits) (below : Meaning) → Over-robust below → Over-robust (bounded m b below)
+  elsewhere : (k : Meaning) → Releases-robustly k → Over-robust k
 
 abbrev pub Over-robust-law : Type 0
 Over-robust-law = (k : Meaning) → Over-robust k → Releases-robustly k

@@ -14,7 +14,8 @@ use output::open_output;
 use std::error::AnyError;
 use std::io::BufReader;
 
-const HELP: &str = "yard reads call lines from standard input and prints each line's number and answer.
+const HELP: &str =
+    "yard reads call lines from standard input and prints each line's number and answer.
 
     yard [--docket FILE] [--explain]
 

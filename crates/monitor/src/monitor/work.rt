@@ -6,6 +6,7 @@ ghost use Rattle.monitor.specs.View.{view};
 ghost use Rattle.rules.specs.Step.{taking, putting, dropping, isManner, worked};
 use super::CEILING;
 use super::Monitor;
+use super::fetch::Pair;
 use crate::tables::Held;
 use crate::tables::Slot;
 use answer::Refusal;
@@ -67,8 +68,8 @@ impl Monitor {
         ensures answer { λ r. ⌜ says nothing r ≡ dropping (view (now (self .entry) .tables)) task «record» .answer ⌝ }
         ensures after { λ r. ⌜ view (now (self .exit) .tables) ≡ dropping (view (now (self .entry) .tables)) task «record» .state ⌝ }
     {
-        let pair = self.fetch(task, record)?;
-        if !pair.open.label.flows_to(&pair.filled.label) {
+        let Pair { open, filled } = self.fetch(task, record)?;
+        if !open.label.flows_to(&filled.label) {
             return Err(Refusal::NoFlow);
         }
         self.tables.set_record(record as usize, Slot::Empty);

@@ -4,7 +4,7 @@ use Rattle.monitor.proofs.Keeps.{sound-record}
 use Rattle.monitor.proofs.monitor.Monitor.drop.Needs as need
 
 pub set-record-requires : need.set-record-requires
-set-record-requires c κs = c .in-Continue-pair .ensures tt .sound .1
+set-record-requires c κs = c .in-Continue-open .ensures tt .sound .1
 
 pub ghost-self : need.ghost-self
 ghost-self c =
