@@ -1,7 +1,7 @@
-//! Prints random call lines: `calls SEED COUNT [mixed|grants|refusals]`.
+//! Prints random call lines: `calls SEED COUNT [mixed|wide|grants|refusals]`.
 //!
-//! Mixed lines reach every answer of the program. Grants and refusals are robust releases and
-//! endorsements that are granted, or refused at 16.
+//! Mixed lines reach every answer of the program. Wide lines put robust requests to labels over all
+//! sixteen parties. Grants and refusals are robust requests that are granted, or refused at 16.
 
 use plain::random::Random;
 use std::io::{self, BufWriter, Write};
@@ -14,7 +14,7 @@ fn main() -> ExitCode {
             Err(_) => ExitCode::FAILURE,
         },
         None => {
-            eprintln!("calls SEED COUNT [mixed|grants|refusals]");
+            eprintln!("calls SEED COUNT [mixed|wide|grants|refusals]");
             ExitCode::FAILURE
         }
     }
@@ -29,6 +29,7 @@ fn arguments() -> Option<(u64, u64, Sort)> {
     let count = words.get(1)?.parse().ok()?;
     let sort: Sort = match words.get(2).map(String::as_str) {
         None | Some("mixed") => |random, _| mixed_line(random),
+        Some("wide") => wide_line,
         Some("grants") => grants_line,
         Some("refusals") => refusals_line,
         Some(_) => return None,
@@ -49,26 +50,28 @@ fn print(seed: u64, count: u64, sort: Sort) -> io::Result<()> {
     output.flush()
 }
 
-// Robust releases and endorsements.
+// Robust releases and endorsements only.
 
-/// The first lines fill ten records and open five tasks, the rest are granted.
+/// A label that leaves much to refuse.
+const NARROW: &str = "0001.0002.0004.0008 001f";
+
+/// Releases on even records and endorsements on odd ones, back and forth, all granted.
 fn grants_line(random: &mut Random, turn: u64) -> Vec<u8> {
-    if let Some(line) = opening_line(turn) {
+    if let Some(line) = opening_line(turn, ["0001.0002 0001", "T 0003"]) {
         return line;
     }
     let task = random.below(5);
     let record = random.below(10);
-    // Nobody sees the record before or afterwards but who holds the hand of the task and more.
-    let line = match random.below(2) {
-        0 => format!("release {task} {record} 0001.0002.0004.0008 1 0001 de"),
-        _ => format!("endorse {task} {record} 001f 1 0001.0002 de"),
+    let (kind, new) = match record % 2 {
+        0 => ("release", random.pick(&["0002", "0001.0002"])),
+        _ => ("endorse", random.pick(&["0001", "0003"])),
     };
-    line.into_bytes()
+    format!("{kind} {task} {record} {new} 1 0001 de").into_bytes()
 }
 
-/// The same beginning; the rest are refused at 16, with low groups and with high ones.
+/// Releases that are refused at 16, with low groups and with high ones.
 fn refusals_line(random: &mut Random, turn: u64) -> Vec<u8> {
-    if let Some(line) = opening_line(turn) {
+    if let Some(line) = opening_line(turn, [NARROW; 2]) {
         return line;
     }
     let task = random.below(5);
@@ -77,13 +80,47 @@ fn refusals_line(random: &mut Random, turn: u64) -> Vec<u8> {
     format!("release {task} {record} {new} 1 0000 de").into_bytes()
 }
 
-fn opening_line(turn: u64) -> Option<Vec<u8>> {
-    match turn {
-        0..=9 => Some(format!("enter {turn} 0 {turn} 0001.0002.0004.0008 001f")),
-        10..=14 => Some(format!("open {} {}", turn - 10, turn - 10)),
-        _ => None,
+/// Labels of any shape, set under a key that covers everything, and robust requests on them.
+fn wide_line(random: &mut Random, turn: u64) -> Vec<u8> {
+    if let Some(line) = opening_line(turn, [NARROW; 2]) {
+        return line;
     }
-    .map(String::into_bytes)
+    let task = random.below(5);
+    let record = random.below(10);
+    let kind = random.pick(&["release", "endorse"]);
+    let line = match random.below(20) {
+        0 => format!("close {task}"),
+        1 | 2 => format!("open {task} {}", random.below(16)),
+        3 => format!("take {task} {record} 0"),
+        4..=11 => format!("{kind} {task} {record} {} 0 0000", wide_formula(random)),
+        12..=17 => format!("{kind} {task} {record} {} 1 0000 de", wide_formula(random)),
+        _ => format!(
+            "{kind} {task} {record} {} 3 0000 de de 0000 T T 0000",
+            wide_formula(random)
+        ),
+    };
+    line.into_bytes()
+}
+
+/// Up to eight clauses, each of up to eight of all parties.
+fn wide_formula(random: &mut Random) -> String {
+    let members = 1 + random.below(8);
+    let count = 1 + random.below(8);
+    let clause = |random: &mut Random| (0..members).fold(0u16, |c, _| c | 1 << random.below(16));
+    let clauses: Vec<String> = (0..count)
+        .map(|_| format!("{:04x}", clause(random)))
+        .collect();
+    clauses.join(".")
+}
+
+/// The first lines fill ten records, even ones and odd ones, and open five tasks.
+fn opening_line(turn: u64, labels: [&str; 2]) -> Option<Vec<u8>> {
+    let line = match turn {
+        0..=9 => format!("enter {turn} 0 {turn} {}", labels[turn as usize % 2]),
+        10..=14 => format!("open {} 0", turn - 10),
+        _ => return None,
+    };
+    Some(line.into_bytes())
 }
 
 // Mixed lines.
