@@ -115,7 +115,7 @@ no-room list ys fl fy v n ch short same =
     omega (arith, ch .rising i j l (omega arith)))
 
 -- a group sees sixteen bits of a clause
-low-bits : (y g : ℕ) → g < 65536 → bitAnd (y % 65536) g ≡ bitAnd y g
+pub low-bits : (y g : ℕ) → g < 65536 → bitAnd (y % 65536) g ≡ bitAnd y g
 low-bits y g h =
     let a : bitAnd y g % 65536 ≡ bitAnd (y % 65536) (g % 65536) = and-mod y g 16 in
     let b : g % 65536 ≡ g = omega arith in

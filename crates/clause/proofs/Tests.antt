@@ -9,7 +9,7 @@ use lib.Dec.{eqb}
 use Rattle.std.specs.Orderings.{Decides}
 use Rattle.std.specs.declared.option.Option.{Option}
 use Rattle.std.specs.declared.option.Option.the-variants.{Some, None}
-use Rattle.std.proofs.shelf.Tests.{eqb-true, eq-eqb, both-ways}
+use Rattle.std.proofs.shelf.Tests.{eqb-true, eq-eqb, both-ways, cases-bool}
 use Rattle.std.proofs.shelf.Ways.{decides-and, decides-not, decides-like, same-from-decides}
 use Rattle.clause.specs.Meaning.{Shares, Meets, BothImply}
 use Rattle.clause.specs.Groups.{met, least, lowest, isNone, nobody, within}
@@ -107,3 +107,15 @@ and-yes false y r e f = absurd (true≢false e)
 pub and-no : (x y r : Bool) → false ≡ x → r ≡ false → r ≡ (x && y)
 and-no true y r e f = absurd (true≢false (sym e))
 and-no false y r e f = f
+
+-- a group meets a formula or does not
+pub decided : (cs : List ℕ) (g : ℕ) → Meets cs g ⊎ (Meets cs g → ⊥)
+decided cs g =
+    elim (cases-bool (met cs g)) [
+      | inl e ↦ inl (met-decides cs g .0 e)
+      | inr e ↦ inr (λ m. both-ways (met cs g) e (met-decides cs g .1 m))
+    ]
+
+-- so it meets one that it does not miss
+pub stable : (cs : List ℕ) (g : ℕ) → ((Meets cs g → ⊥) → ⊥) → Meets cs g
+stable cs g h = elim (decided cs g) [ inl m ↦ m | inr n ↦ absurd (h n) ]

@@ -42,7 +42,7 @@ means-either a b = means-reduced (unions a b) _ (means-unions a b)
 means-itself : (xs : List ℕ) → Means xs (Meets xs)
 means-itself xs g l = (λ m. m, λ m. m)
 
-small-reduced : (xs : List ℕ) → Sixteen xs → Sixteen (reduced xs)
+pub small-reduced : (xs : List ℕ) → Sixteen xs → Sixteen (reduced xs)
 small-reduced xs s k =
     elim (cases-lt k (length (reduced xs))) [
       | inl h ↦ all-getD (λ c. c < 65536) (reduced xs) k 0 h (all-reduced (λ c. c < 65536) xs (all-from-getD (λ c. c < 65536) xs 0 (λ i _. s i)))

@@ -1,3 +1,4 @@
 pub mod Choosing
 pub mod Gathering
 pub mod Forming
+pub mod Keeping

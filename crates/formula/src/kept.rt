@@ -1,6 +1,7 @@
 mod compare;
 mod equal;
 mod join;
+mod keep;
 mod reduce;
 mod simple;
 

@@ -30,7 +30,7 @@ use Rattle.key.specs.Laws.{Sees, HasHand, Everybody, Nobody, Gains, Steers, St
 never : (d : Denial) {X : Type 0} → Err d ≡ grant → X
 never d e = let z : _≡_ {A = ℕ} 0 1 = cc in let w : ⊥ = omega arith in absurd w
 
-passing-grants : (a b : Verdict) → passing a b ≡ grant → (a ≡ grant) × (b ≡ grant)
+pub passing-grants : (a b : Verdict) → passing a b ≡ grant → (a ≡ grant) × (b ≡ grant)
 passing-grants (Ok u) b e = (refl, e)
 passing-grants (Err d) b e = never d e
 

@@ -1,0 +1,16 @@
+mod Rows
+mod Numbers
+mod Fetching
+mod Steps
+mod Splitting
+mod Entering
+mod Placing
+mod Forth
+mod Back
+mod Packing
+mod Whole
+mod Settles
+mod Filing
+mod Laws
+mod Drawing
+mod Telling

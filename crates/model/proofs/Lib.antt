@@ -1,0 +1,4 @@
+pub mod Singles
+pub mod Lattices
+pub mod Privileged
+pub mod Attacking

@@ -1,0 +1,3 @@
+pub mod Lattice
+pub mod Privileges
+pub mod Attackers
