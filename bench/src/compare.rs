@@ -1,6 +1,6 @@
 //! The comparison of two formulas given as bytes.
 
-use crate::formula::{Formula, MOST_LISTED};
+use crate::formula::Formula;
 use crate::refusal::{ask, Refusal};
 
 /// Does the first formula imply the second (questions 19, 1 and 2, first list first)?
@@ -12,14 +12,9 @@ pub fn compare(first: &[u8], second: &[u8]) -> Result<bool, Refusal> {
 
 /// Two bytes a clause, high byte first.
 fn parse(bytes: &[u8]) -> Result<Formula, Refusal> {
-    ask(19, bytes.len() % 2 == 0)?;
-    let count = bytes.len() / 2;
-    ask(1, count <= MOST_LISTED)?;
-    let mut list = [0; MOST_LISTED];
-    for (clause, pair) in list.iter_mut().zip(bytes.chunks_exact(2)) {
-        *clause = u16::from_be_bytes([pair[0], pair[1]]);
-    }
-    Formula::reduce(&list[..count])
+    ask(19, bytes.len().is_multiple_of(2))?;
+    let clause = |pair: &[u8]| u16::from_be_bytes([pair[0], pair[1]]);
+    Formula::reduce_all(bytes.chunks_exact(2).map(clause))
 }
 
 #[cfg(test)]

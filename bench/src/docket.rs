@@ -72,10 +72,7 @@ pub fn read(bytes: &[u8], place: usize) -> Result<Option<(Entry, usize)>, Refusa
     if rest.is_empty() {
         return Ok(None);
     }
-    let mut unpacker = Unpacker {
-        bytes: rest,
-        place: 0,
-    };
+    let mut unpacker = Unpacker::new(rest);
     let entry = unpack(&mut unpacker)?;
     let taken = unpacker.padding()?;
     Ok(Some((entry, place + taken)))
@@ -115,9 +112,7 @@ fn unpack_formula(unpacker: &mut Unpacker) -> Result<Formula, Refusal> {
     for clause in clauses.iter_mut() {
         *clause = unpacker.take(16)?;
     }
-    let formula = Formula::reduce(clauses)?;
-    ask(20, formula.clauses() == clauses)?;
-    Ok(formula)
+    Formula::of_kept(clauses).ok_or(Refusal::At(20))
 }
 
 /// Puts fields behind each other into bytes that are 0.
@@ -139,32 +134,47 @@ impl Packer<'_> {
     }
 }
 
+/// At least the longest entry, and enough behind it to take four bytes from any of its bytes.
+const WINDOW: usize = 24;
+
 /// Takes fields from bytes.
-struct Unpacker<'a> {
-    bytes: &'a [u8],
+struct Unpacker {
+    window: [u8; WINDOW],
+    present: usize,
     place: usize,
 }
 
-impl Unpacker<'_> {
+impl Unpacker {
+    fn new(bytes: &[u8]) -> Unpacker {
+        let length = bytes.len().min(WINDOW);
+        let window = bytes.first_chunk().copied().unwrap_or_else(|| {
+            let mut padded = [0; WINDOW];
+            padded[..length].copy_from_slice(&bytes[..length]);
+            padded
+        });
+        Unpacker {
+            window,
+            present: 8 * length,
+            place: 0,
+        }
+    }
+
     /// Takes the next bits, at most 16 (question 19).
     fn take(&mut self, bits: usize) -> Result<u16, Refusal> {
-        ask(19, self.place + bits <= 8 * self.bytes.len())?;
-        let first = self.place / 8;
-        let mut spread = [0; 4];
-        for (part, byte) in spread[1..].iter_mut().zip(&self.bytes[first..]) {
-            *part = *byte;
-        }
-        let shift = 24 - bits - self.place % 8;
+        ask(19, self.place + bits <= self.present)?;
+        let mut four = [0; 4];
+        four.copy_from_slice(&self.window[self.place / 8..][..4]);
+        let shift = 32 - bits - self.place % 8;
         let mask = (1 << bits) - 1;
         self.place += bits;
-        Ok((u32::from_be_bytes(spread) >> shift & mask) as u16)
+        Ok((u32::from_be_bytes(four) >> shift & mask) as u16)
     }
 
     /// Checks the padding (question 20) and answers the number of bytes taken.
     fn padding(&mut self) -> Result<usize, Refusal> {
         let taken = self.place.div_ceil(8);
         let bits = 8 * taken - self.place;
-        ask(20, self.take(bits)? == 0)?;
+        ask(20, bits == 0 || self.take(bits)? == 0)?;
         Ok(taken)
     }
 }
@@ -278,14 +288,14 @@ mod tests {
     fn entries_come_back() {
         let mut random = Random::new(3);
         for _ in 0..10_000 {
-            let list: Vec<u16> = (0..random.below(9)).map(|_| random.next() as u16).collect();
+            let list: Vec<u16> = (0..random.below(9)).map(|_| random.bits() as u16).collect();
             let entry = Entry {
                 kind: random.pick(&[Kind::Release, Kind::Endorse]),
                 task: random.below(8),
                 record: random.below(64),
                 answer: match random.pick(&NAMED) {
                     5 => Ok(()),
-                    16 => Err(Refusal::Group(random.next() as u16)),
+                    16 => Err(Refusal::Group(random.bits() as u16)),
                     question => Err(Refusal::At(question)),
                 },
                 formula: formula(&list),

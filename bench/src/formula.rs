@@ -36,10 +36,32 @@ impl Formula {
 
     /// Reduces a list of clauses (questions 1 and 2).
     pub fn reduce(list: &[u16]) -> Result<Formula, Refusal> {
+        Formula::reduce_all(list.iter().copied())
+    }
+
+    /// The same for clauses that are not in a slice.
+    pub fn reduce_all(list: impl ExactSizeIterator<Item = u16>) -> Result<Formula, Refusal> {
         ask(1, list.len() <= MOST_LISTED)?;
         let mut minimal = Minimal::new();
-        list.iter().for_each(|&clause| minimal.add(clause));
+        list.for_each(|clause| minimal.add(clause));
         minimal.keep()
+    }
+
+    /// The formula of clauses that are in kept form already, and nothing of others.
+    pub fn of_kept(clauses: &[u16]) -> Option<Formula> {
+        // In rising order a clause can only contain one before it.
+        let minimal = |(k, &clause): (usize, &u16)| {
+            clauses[..k]
+                .iter()
+                .all(|&before| before < clause && !within(before, clause))
+        };
+        if clauses.len() > MOST_KEPT || !clauses.iter().enumerate().all(minimal) {
+            return None;
+        }
+        let mut formula = Formula::TRUE;
+        formula.count = clauses.len() as u8;
+        formula.slots[..clauses.len()].copy_from_slice(clauses);
+        Some(formula)
     }
 
     /// The clauses, in rising order.
@@ -149,7 +171,7 @@ mod tests {
     fn some_formula(random: &mut Random) -> Formula {
         let count = random.below(5) as usize;
         let mask = [0x000f, 0x00ff, 0xffff][random.below(3) as usize];
-        let list: Vec<u16> = (0..count).map(|_| random.next() as u16 & mask).collect();
+        let list: Vec<u16> = (0..count).map(|_| random.bits() as u16 & mask).collect();
         formula(&list)
     }
 
@@ -168,6 +190,20 @@ mod tests {
         assert!(!Formula::TRUE.implies(&formula(&[1])));
         assert_eq!(formula(&[1]).and(&formula(&[2])), Ok(formula(&[1, 2])));
         assert_eq!(formula(&[1]).or(&formula(&[2])), Ok(formula(&[3])));
+    }
+
+    #[test]
+    fn kept_forms() {
+        let mut random = Random::new(4);
+        for _ in 0..100_000 {
+            let count = random.below(5);
+            let list: Vec<u16> = (0..count).map(|_| random.below(16) as u16).collect();
+            let kept = formula(&list).clauses() == list;
+            assert_eq!(Formula::of_kept(&list).is_some(), kept, "{list:?}");
+        }
+        assert_eq!(Formula::of_kept(&[1, 6]), Some(formula(&[6, 1])));
+        let nine: Vec<u16> = (0..9).map(|k| 1 << k).collect();
+        assert_eq!(Formula::of_kept(&nine), None);
     }
 
     #[test]

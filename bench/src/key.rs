@@ -282,7 +282,7 @@ mod tests {
         let mut random = Random::new(2);
         let some = |random: &mut Random| {
             let count = random.below(4) as usize;
-            let list: Vec<u16> = (0..count).map(|_| random.next() as u16 & 31).collect();
+            let list: Vec<u16> = (0..count).map(|_| random.bits() as u16 & 31).collect();
             formula(&list)
         };
         for turn in 0..200 {

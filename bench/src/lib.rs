@@ -11,4 +11,4 @@ pub mod monitor;
 pub mod program;
 pub mod random;
 pub mod refusal;
-pub mod usage;
+pub mod timing;

@@ -10,8 +10,8 @@ impl Random {
         Random(mixed.max(1))
     }
 
-    /// The next number.
-    pub fn next(&mut self) -> u64 {
+    /// The next 48 random bits.
+    pub fn bits(&mut self) -> u64 {
         self.0 ^= self.0 << 13;
         self.0 ^= self.0 >> 7;
         self.0 ^= self.0 << 17;
@@ -20,7 +20,7 @@ impl Random {
 
     /// A number below `limit`, which is not 0.
     pub fn below(&mut self, limit: u64) -> u64 {
-        self.next() % limit
+        self.bits() % limit
     }
 
     /// Yes, `percent` times in a hundred.

@@ -43,7 +43,7 @@ fn print(seed: u64, count: u64, sort: Sort) -> io::Result<()> {
     for turn in 0..count {
         output.write_all(&sort(&mut random, turn))?;
         // Now and then the last line has no end.
-        if turn + 1 < count || seed % 3 != 0 {
+        if turn + 1 < count || !seed.is_multiple_of(3) {
             output.write_all(b"\n")?;
         }
     }
@@ -164,7 +164,7 @@ fn random_bytes(random: &mut Random) -> Vec<u8> {
 
 /// Any byte but the one that ends a line.
 fn random_byte(random: &mut Random) -> u8 {
-    match random.next() as u8 {
+    match random.bits() as u8 {
         b'\n' => b'\r',
         byte => byte,
     }
@@ -322,8 +322,8 @@ fn figure(random: &mut Random) -> String {
 
 fn group(random: &mut Random) -> u16 {
     match random.below(4) {
-        0 => random.next() as u16,
-        _ => random.next() as u16 & 15,
+        0 => random.bits() as u16,
+        _ => random.bits() as u16 & 15,
     }
 }
 

@@ -2,7 +2,7 @@
 //!
 //! Prints a table. The two run in turn on each file, so that a busy moment hits both.
 
-use plain::usage;
+use plain::timing::{self, median};
 use std::fs::{self, File};
 use std::io;
 use std::process::{Child, Command, Stdio};
@@ -46,12 +46,6 @@ fn row(yard: &str, plain: &str, name: &str, path: &str) -> io::Result<String> {
     ))
 }
 
-/// Puts the numbers in rising order and answers the middle one.
-fn median(numbers: &mut [f64]) -> f64 {
-    numbers.sort_by(f64::total_cmp);
-    numbers[numbers.len() / 2]
-}
-
 fn lines(path: &str) -> io::Result<usize> {
     let bytes = fs::read(path)?;
     Ok(bytes.iter().filter(|&&byte| byte == b'\n').count())
@@ -71,9 +65,9 @@ fn end(mut child: Child) -> io::Result<()> {
 
 /// The processor time of one run.
 fn time(program: &str, path: &str) -> io::Result<Duration> {
-    let before = usage::of_children();
+    let before = timing::of_children();
     end(start(program, File::open(path)?.into())?)?;
-    Ok(usage::of_children() - before)
+    Ok(timing::of_children() - before)
 }
 
 /// The most memory that a run has had, in KiB. The system tells it while the program still waits for

@@ -1,4 +1,4 @@
-//! Processor time, which is steadier than the clock on a busy machine.
+//! Times of runs: processor time, as it is steadier than the clock on a busy machine.
 
 use std::time::Duration;
 
@@ -38,4 +38,10 @@ fn used(who: i32) -> Duration {
 
 fn duration([seconds, micros]: [i64; 2]) -> Duration {
     Duration::from_secs(seconds as u64) + Duration::from_micros(micros as u64)
+}
+
+/// Puts the numbers in rising order and answers the middle one.
+pub fn median(numbers: &mut [f64]) -> f64 {
+    numbers.sort_by(f64::total_cmp);
+    numbers[numbers.len() / 2]
 }
