@@ -9,6 +9,7 @@ ghost use Prim.Native.Nat.{_-_};
 ghost use lib.Bits.{bitOr};
 ghost use Rattle.clause.specs.Meaning.{Shares, Meets, Implies, BothImply, ImpliesEither};
 ghost use Rattle.std.specs.Orderings.{Decides};
+use reduce::contains;
 
 /// Tells whether the two have a party in common.
 fn shares(clause: u16, group: u16) -> bool
@@ -47,10 +48,13 @@ pub fn meets_both(a: &[u16], b: &[u16], group: u16) -> bool
 pub fn implies(first: &[u16], second: &[u16]) -> bool
     ensures { λ r. ⌜ Decides r (Implies (now (first .entry)) (now (second .entry))) ⌝ }
 {
-    for &clause in second {
-        if !contains_one(clause, first) {
-            return false;
+    'sought: for &wide in second {
+        for &narrow in first {
+            if contains(wide, narrow) {
+                continue 'sought;
+            }
         }
+        return false;
     }
     true
 }

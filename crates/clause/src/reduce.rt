@@ -6,7 +6,7 @@ ghost use Rattle.std.specs.Orderings.{Decides};
 ghost use Rattle.clause.specs.Parts.{Part, Over, Found};
 
 /// Tells whether `wide` names every party that `narrow` names.
-fn contains(wide: u16, narrow: u16) -> bool
+pub(crate) fn contains(wide: u16, narrow: u16) -> bool
     ensures { λ r. ⌜ Decides r (Part narrow wide) ⌝ }
 {
     narrow & wide == narrow
