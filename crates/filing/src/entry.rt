@@ -25,7 +25,7 @@ fn verdict_of(answer: Answer) -> Result<(), Refusal>
 }
 
 /// The entry of a line that was answered so: only releases and endorsements have one.
-pub fn entry_of(line: &[u8], answer: Answer) -> Option<Entry>
+pub(crate) fn entry_of(line: &[u8], answer: Answer) -> Option<Entry>
     ensures { λ r. ⌜ plainIn r ≡ entryFor (formOf (now (line .entry))) (told answer) ⌝ }
 {
     let answer = verdict_of(answer);

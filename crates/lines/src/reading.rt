@@ -39,7 +39,7 @@ fn read_bounds(words: BoundsWords<'_>) -> Result<Bounds, Refusal>
 }
 
 /// The key that a line writes, with its formulas reduced from left to right.
-pub fn read_key(words: KeyWords<'_>) -> Result<LineKey, Refusal>
+pub(crate) fn read_key(words: KeyWords<'_>) -> Result<LineKey, Refusal>
     ensures { λ r. ⌜ KeyRead (keySay (words .entry)) r ⌝ }
 {
     match words {

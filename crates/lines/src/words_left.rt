@@ -67,31 +67,31 @@ impl<'a> WordsLeft<'a> {
         Some(word)
     }
 
-    pub fn name(&mut self) -> Option<Name>
+    pub(crate) fn name(&mut self) -> Option<Name>
         ensures { λ r. ⌜ Taken nameOf (left (now (self .entry))) r (left (now (self .exit))) ⌝ }
     {
         name_of(self.word()?)
     }
 
-    pub fn number(&mut self) -> Option<u64>
+    pub(crate) fn number(&mut self) -> Option<u64>
         ensures { λ r. ⌜ Taken decimal (left (now (self .entry))) r (left (now (self .exit))) ⌝ }
     {
         number(self.word()?)
     }
 
-    pub fn group(&mut self) -> Option<u16>
+    pub(crate) fn group(&mut self) -> Option<u16>
         ensures { λ r. ⌜ Taken hexFour (left (now (self .entry))) r (left (now (self .exit))) ⌝ }
     {
         hex_four(self.word()?)
     }
 
-    pub fn formula(&mut self) -> Option<FormulaWord<'a>>
+    pub(crate) fn formula(&mut self) -> Option<FormulaWord<'a>>
         ensures { λ r. ⌜ Taken formulaOf (left (now (self .entry))) (writtenIn r) (left (now (self .exit))) ⌝ }
     {
         formula_word(self.word()?)
     }
 
-    pub fn mode(&mut self) -> Option<Mode>
+    pub(crate) fn mode(&mut self) -> Option<Mode>
         ensures { λ r. ⌜ Taken modeOf (left (now (self .entry))) r (left (now (self .exit))) ⌝ }
     {
         mode_word(self.word()?)
@@ -116,7 +116,7 @@ impl<'a> WordsLeft<'a> {
     }
 
     /// A key: its code, its plain formula, and what the wraps add.
-    pub fn key(&mut self) -> Option<KeyWords<'a>>
+    pub(crate) fn key(&mut self) -> Option<KeyWords<'a>>
         ensures { λ r. ⌜ KeyTaken (left (now (self .entry))) r (left (now (self .exit))) ⌝ }
     {
         let code = self.number()?;
@@ -141,7 +141,7 @@ impl<'a> WordsLeft<'a> {
     }
 
     /// Nothing, where no word is left.
-    pub fn end(&mut self) -> Option<()>
+    pub(crate) fn end(&mut self) -> Option<()>
         ensures { λ r. ⌜ Ended (left (now (self .entry))) r ⌝ }
     {
         match self.rest {

@@ -33,7 +33,7 @@ pub struct Tables {
 
 impl Tables {
     /// All records empty, and all tasks closed.
-    pub fn new() -> Tables
+    pub(crate) fn new() -> Tables
         ensures { λ r. ⌜ view r ≡ blank ⌝ }
     {
         Tables {
@@ -42,28 +42,28 @@ impl Tables {
         }
     }
 
-    pub fn record(&self, i: usize) -> Slot
+    pub(crate) fn record(&self, i: usize) -> Slot
         requires { ⌜ i < 64 ⌝ }
         ensures { λ r. ⌜ placeOf r ≡ recordAt (view (now (self .entry))) i ⌝ }
     {
         self.records[i]
     }
 
-    pub fn task(&self, i: usize) -> Slot
+    pub(crate) fn task(&self, i: usize) -> Slot
         requires { ⌜ i < 8 ⌝ }
         ensures { λ r. ⌜ placeOf r ≡ taskAt (view (now (self .entry))) i ⌝ }
     {
         self.tasks[i]
     }
 
-    pub fn set_record(&mut self, i: usize, slot: Slot)
+    pub(crate) fn set_record(&mut self, i: usize, slot: Slot)
         requires { ⌜ i < 64 ⌝ }
         ensures { λ _. ⌜ view (now (self .exit)) ≡ withRecord (view (now (self .entry))) i (placeOf slot) ⌝ }
     {
         self.records[i] = slot;
     }
 
-    pub fn set_task(&mut self, i: usize, slot: Slot)
+    pub(crate) fn set_task(&mut self, i: usize, slot: Slot)
         requires { ⌜ i < 8 ⌝ }
         ensures { λ _. ⌜ view (now (self .exit)) ≡ withTask (view (now (self .entry))) i (placeOf slot) ⌝ }
     {
