@@ -1,7 +1,8 @@
-//! Prints random call lines: `calls SEED COUNT [mixed|wide|grants|refusals]`.
+//! Prints random call lines: `calls SEED COUNT [mixed|wide|figures|grants|refusals]`.
 //!
 //! Mixed lines reach every answer of the program. Wide lines put robust requests to labels over all
-//! sixteen parties. Grants and refusals are robust requests that are granted, or refused at 16.
+//! sixteen parties. Lines of figures work with figures that everybody sees. Grants and refusals are
+//! robust requests that are granted, or refused at 16.
 
 use plain::random::Random;
 use std::io::{self, BufWriter, Write};
@@ -14,7 +15,7 @@ fn main() -> ExitCode {
             Err(_) => ExitCode::FAILURE,
         },
         None => {
-            eprintln!("calls SEED COUNT [mixed|wide|grants|refusals]");
+            eprintln!("calls SEED COUNT [mixed|wide|figures|grants|refusals]");
             ExitCode::FAILURE
         }
     }
@@ -30,6 +31,7 @@ fn arguments() -> Option<(u64, u64, Sort)> {
     let sort: Sort = match words.get(2).map(String::as_str) {
         None | Some("mixed") => |random, _| mixed_line(random),
         Some("wide") => wide_line,
+        Some("figures") => figures_line,
         Some("grants") => grants_line,
         Some("refusals") => refusals_line,
         Some(_) => return None,
@@ -111,6 +113,26 @@ fn wide_formula(random: &mut Random) -> String {
         .map(|_| format!("{:04x}", clause(random)))
         .collect();
     clauses.join(".")
+}
+
+/// Figures at the floor and the ceiling worked into tasks and shown; no label stands in the way.
+fn figures_line(random: &mut Random, turn: u64) -> Vec<u8> {
+    const FREE: &str = "T T";
+    if let Some(line) = opening_line(turn, [FREE; 2]) {
+        return line;
+    }
+    let task = random.below(5);
+    let record = random.below(10);
+    let line = match random.below(10) {
+        0 => format!("drop {task} {record}"),
+        1 | 2 => format!("enter {record} 0 {} {FREE}", figure(random)),
+        3..=5 => format!("take {task} {record} {}", random.below(3)),
+        6 | 7 => format!("put {task} {record}"),
+        8 if random.chance(50) => format!("close {task}"),
+        8 => format!("open {task} 0"),
+        _ => format!("show {record} 0000"),
+    };
+    line.into_bytes()
 }
 
 /// The first lines fill ten records, even ones and odd ones, and open five tasks.
