@@ -6,10 +6,6 @@ use Prim.Native.Nat.{ℕ}
 use Rattle.std.specs.declared.option.Option.{Option}
 use Rattle.clause.specs.Groups.{met, lowest, earlier}
 use Rattle.lowest.proofs.Choosing.{earlier-is}
-use Rattle.label.specs.declared.kind.Kind.{Kind}
-use Rattle.label.specs.declared.kind.Kind.the-variants.{Release, Endorse}
-use Rattle.key.specs.Requests.{Asked}
-use Rattle.key.specs.Meanings.{steers, steersKind}
 
 -- the order in which the parts of a test are asked does not matter
 reordered : (n o h : Bool) → ((n && not o) && h) ≡ ((n && h) && not o)
@@ -36,10 +32,9 @@ either-hand true false k = orr k
 either-hand false h k = refl
 
 -- with the task's hand, or with the record's
-pub by-hands : (r : Asked) → r .kind ≡ Release
-    → earlier (lowest (λ g. (met (r .new) g && not (met (r .held .sight) g)) && met (r .task .hand) g)) (lowest (λ g. (met (r .new) g && not (met (r .held .sight) g)) && met (r .held .hand) g)) ≡ lowest (steers r)
-by-hands r e =
-    earlier-is (λ g. (met (r .new) g && not (met (r .held .sight) g)) && met (r .task .hand) g) (λ g. (met (r .new) g && not (met (r .held .sight) g)) && met (r .held .hand) g)
-    (steersKind Release r)
-    (λ g. either-hand (met (r .new) g && not (met (r .held .sight) g)) (met (r .held .hand) g) (met (r .task .hand) g))
-    ∙ ap (λ (k : Kind). lowest (steersKind k r)) (sym e)
+pub by-hands : (o n h k : List ℕ)
+    → earlier (lowest (λ g. (met n g && not (met o g)) && met k g)) (lowest (λ g. (met n g && not (met o g)) && met h g)) ≡ lowest (λ g. (met n g && not (met o g)) && (met h g || met k g))
+by-hands o n h k =
+    earlier-is (λ g. (met n g && not (met o g)) && met k g) (λ g. (met n g && not (met o g)) && met h g)
+    (λ g. (met n g && not (met o g)) && (met h g || met k g))
+    (λ g. either-hand (met n g && not (met o g)) (met h g) (met k g))

@@ -1,5 +1,5 @@
 ghost use mathlib.Core.Path.{_≡_};
-ghost use mathlib.Core.Bool.{not, _&&_};
+ghost use mathlib.Core.Bool.{not, _&&_, _||_};
 ghost use Rattle.clause.specs.Groups.{met, lowest};
 ghost use Rattle.formula.specs.Of.{clausesOf};
 ghost use Rattle.key.specs.Requests.{asked};
@@ -35,20 +35,25 @@ fn lowest_losing(task: Formula, record: Formula, new: Formula) -> Option<u16>
     lowest_missing(new.as_slice(), task.as_slice(), record.as_slice())
 }
 
+/// The lowest-numbered group that sees by `new`, does not by `old`, and meets one of the hands.
+fn lowest_gaining_with(old: Formula, new: Formula, record: Formula, task: Formula) -> Option<u16>
+    ensures { λ r. ⌜ r ≡ lowest (λ g. (met (clausesOf new) g && not (met (clausesOf old) g)) && (met (clausesOf «record») g || met (clausesOf task) g)) ⌝ }
+{
+    let by_task = lowest_gaining(old, new, task);
+    let by_record = lowest_gaining(old, new, record);
+    earlier(by_task, by_record)
+}
+
 /// The lowest-numbered group that could have steered the request to its own gain.
 fn lowest_steering(request: &Request) -> Option<u16>
     ensures { λ r. ⌜ r ≡ lowest (steers (asked (now (request .entry)))) ⌝ }
 {
     let task = request.task.hand.0;
     let record = request.record.hand.0;
+    let new = request.new;
     match request.kind {
-        Kind::Release => {
-            let old = request.record.sight.0;
-            let by_task = lowest_gaining(old, request.new, task);
-            let by_record = lowest_gaining(old, request.new, record);
-            earlier(by_task, by_record)
-        }
-        Kind::Endorse => lowest_losing(task, record, request.new),
+        Kind::Release => lowest_gaining_with(request.record.sight.0, new, record, task),
+        Kind::Endorse => lowest_losing(task, record, new),
     }
 }
 
