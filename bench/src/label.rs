@@ -33,10 +33,10 @@ impl Label {
 }
 
 #[cfg(test)]
-mod tests {
+pub(crate) mod tests {
     use super::*;
 
-    fn label(sight: &[u16], hand: &[u16]) -> Label {
+    pub(crate) fn label(sight: &[u16], hand: &[u16]) -> Label {
         Label {
             sight: Formula::reduce(sight).unwrap(),
             hand: Formula::reduce(hand).unwrap(),

@@ -165,13 +165,7 @@ impl Monitor {
 #[cfg(test)]
 mod tests {
     use super::*;
-
-    fn label(sight: &[u16], hand: &[u16]) -> Label {
-        Label {
-            sight: Formula::reduce(sight).unwrap(),
-            hand: Formula::reduce(hand).unwrap(),
-        }
-    }
+    use crate::label::tests::label;
 
     #[test]
     fn figures_stay_between_floor_and_ceiling() {
