@@ -9,4 +9,4 @@ returns c =
     let missed = c.args.missed.now in
     let needs = c.args.needs.now in
     let more = c.args.more.now in
-    first_is (λ g. (met needs g && met more g) && not (met missed g)) (Missing missed needs more) (missing_decides missed needs more) c.first-missing.result c.first-missing.ensures
+    first_is (λ g. (met needs g && met more g) && not (met missed g)) (Missing missed needs more) (missing_decides missed needs more) c.first_missing.result c.first_missing.ensures

@@ -9,7 +9,7 @@ returns c =
     record {
       keys = key_laws;
       over = over_robust_law;
-      secrecy = secret c.mark-is-tracked.ensures;
-      influence = influences c.mark-is-tracked-2.ensures;
+      secrecy = secret c.mark_is_tracked.ensures;
+      influence = influences c.mark_is_tracked-2.ensures;
       tracking = tracked;
     }

@@ -12,8 +12,8 @@ loop-clause-preserved c =
     elim c.if-not-contains_one.branch [
       | goal.then-not-contains_one w ↦
           subst (Found list (n + 1) chosen) (sym w.least-is)
-          (found_lesser list n chosen c.loop-clause.least w.lesser.result c.loop-clause.invariant (λ o. false≢true (w.if-not-contains-one.ensures.1 o)) w.lesser.ensures)
+          (found_lesser list n chosen c.loop-clause.least w.lesser.result c.loop-clause.invariant (λ o. false≢true (w.if-not-contains_one.ensures.1 o)) w.lesser.ensures)
       | goal.else-not-contains_one w ↦
           subst (Found list (n + 1) chosen) (sym w.least-is)
-          (found_over list n chosen c.loop-clause.least c.loop-clause.invariant (w.if-not-contains-one.ensures.0 refl))
+          (found_over list n chosen c.loop-clause.least c.loop-clause.invariant (w.if-not-contains_one.ensures.0 refl))
     ]

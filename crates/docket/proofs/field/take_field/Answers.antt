@@ -15,8 +15,8 @@ returns-then-at-width c =
 pub returns : goal.returns
 returns c =
     let l = length_unpack c.args.bytes.now in
-    let small = c.get-field.ensures.small in
+    let small = c.get_field.ensures.small in
     record {
-      part = λ next. field_ok (unpack c.args.bytes.now) c.args.at c.args.width c.get-field.result next (omega (arith, l)) c.get-field.ensures.number small;
+      part = λ next. field_ok (unpack c.args.bytes.now) c.args.at c.args.width c.get_field.result next (omega (arith, l)) c.get_field.ensures.number small;
       small = small;
     }

@@ -17,7 +17,7 @@ returns-in-1 c =
     let at = c.args.at in
     record {
       value = omega (arith, get_or_past xs (at + 1) 0 (omega arith), get_or_past xs (at + 2) 0 (omega arith));
-      small = omega (arith, c.type-inv.bytes at);
+      small = omega (arith, c.type_inv.bytes at);
     }
 
 pub returns-in-2 : goal.returns-in-2
@@ -26,5 +26,5 @@ returns-in-2 c =
     let at = c.args.at in
     record {
       value = omega (arith, get_or_past xs (at + 2) 0 (omega arith));
-      small = omega (arith, c.type-inv.bytes at, c.type-inv.bytes (at + 1));
+      small = omega (arith, c.type_inv.bytes at, c.type_inv.bytes (at + 1));
     }

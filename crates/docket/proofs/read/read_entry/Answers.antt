@@ -35,7 +35,7 @@ returns-in-Ok c =
     let bytes = c.args.bytes.now in
     let place = c.args.place in
     let e = plain_of c.in-Ok.entry in
-    let r : entry e (place + c.size-of.result) ≡ read_at bytes place =
-    ap (λ (n : ℕ). entry e (place + n)) c.size-of.ensures.value ∙ stands bytes place _ (omega arith) c.in-Ok.ensures in
-    let b : Bytes bytes = All-from_get_or (λ b. b < 256) bytes 0 (λ i _. let h = c.type-inv.bytes i in omega arith) in
-    record { answer = r; written = was bytes place (entry e (place + c.size-of.result)) b r; laws = laws }
+    let r : entry e (place + c.size_of.result) ≡ read_at bytes place =
+    ap (λ (n : ℕ). entry e (place + n)) c.size_of.ensures.value ∙ stands bytes place _ (omega arith) c.in-Ok.ensures in
+    let b : Bytes bytes = All-from_get_or (λ b. b < 256) bytes 0 (λ i _. let h = c.type_inv.bytes i in omega arith) in
+    record { answer = r; written = was bytes place (entry e (place + c.size_of.result)) b r; laws = laws }

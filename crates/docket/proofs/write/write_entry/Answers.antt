@@ -42,12 +42,12 @@ pub returns : goal.returns
 returns c =
     let e = plain_of c.args.item.now in
     let new = c.args.item.now.new in
-    let yes : carries e ≡ true = sym c.if-not-is-carried.ensures in
-    let is = c.size-of-size.ensures.value in
-    let room : c.args.place + c.size-of-size.result ≤ length c.args.bytes.now = omega arith in
-    let carried : Carried e = record { fields = yes; form = kept_clauses new; groups = c.put-entry.ensures.groups; clauses = sixteen_clauses new } in
+    let yes : carries e ≡ true = sym c.if-not-is_carried.ensures in
+    let is = c.size_of-size.ensures.value in
+    let room : c.args.place + c.size_of-size.result ≤ length c.args.bytes.now = omega arith in
+    let carried : Carried e = record { fields = yes; form = kept_clauses new; groups = c.put_entry.ensures.groups; clauses = sixteen_clauses new } in
     record {
-      answer = told e c.args.place c.size-of-size.result c.args.bytes.now c.put-entry.new.bytes yes is room c.put-entry.ensures.all;
-      after = after e c.args.place c.size-of-size.result c.args.bytes.now c.put-entry.new.bytes yes is room c.put-entry.ensures.all;
-      back = back e c.args.place c.size-of-size.result c.args.bytes.now c.put-entry.new.bytes yes is room c.put-entry.ensures.all carried;
+      answer = told e c.args.place c.size_of-size.result c.args.bytes.now c.put_entry.new.bytes yes is room c.put_entry.ensures.all;
+      after = after e c.args.place c.size_of-size.result c.args.bytes.now c.put_entry.new.bytes yes is room c.put_entry.ensures.all;
+      back = back e c.args.place c.size_of-size.result c.args.bytes.now c.put_entry.new.bytes yes is room c.put_entry.ensures.all carried;
     }

@@ -10,9 +10,9 @@ pub invariant-of-result : goal.invariant-of-result
 invariant-of-result c =
     let e = plain_of c.args.item.now in
     let few = eight c.args.item.now.new in
-    let small : c.match-write-entry.count ≤ 21 =
-    elim c.match-write-entry.branch [
-      | in-Ok w ↦ subst (λ (n : ℕ). n ≤ 21) (sym w.count-is) (filed_ok e few (replicate 21 0) c.write-entry.new.bytes refl c.write-entry.ensures.after w.in-Ok.next w.in-Ok.ensures.answer).0
+    let small : c.match-write_entry.count ≤ 21 =
+    elim c.match-write_entry.branch [
+      | in-Ok w ↦ subst (λ (n : ℕ). n ≤ 21) (sym w.count-is) (filed_ok e few (replicate 21 0) c.write_entry.new.bytes refl c.write_entry.ensures.after w.in-Ok.next w.in-Ok.ensures.answer).0
       | in-Err w ↦ omega (arith, w.count-is)
     ] in
     (small, tt)
@@ -21,11 +21,11 @@ pub returns : goal.returns
 returns c =
     let e = plain_of c.args.item.now in
     let few = eight c.args.item.now.new in
-    elim c.match-write-entry.branch [
+    elim c.match-write_entry.branch [
       | in-Ok w ↦
-          subst (λ (n : ℕ). take n c.write-entry.new.bytes ≡ bytes_of e) (sym w.count-is)
-          (filed_ok e few (replicate 21 0) c.write-entry.new.bytes refl c.write-entry.ensures.after w.in-Ok.next w.in-Ok.ensures.answer).1
+          subst (λ (n : ℕ). take n c.write_entry.new.bytes ≡ bytes_of e) (sym w.count-is)
+          (filed_ok e few (replicate 21 0) c.write_entry.new.bytes refl c.write_entry.ensures.after w.in-Ok.next w.in-Ok.ensures.answer).1
       | in-Err w ↦
-          subst (λ (n : ℕ). take n c.write-entry.new.bytes ≡ bytes_of e) (sym w.count-is)
-          (filed_no e few (replicate 21 0) c.write-entry.new.bytes refl c.write-entry.ensures.after w.in-Err.field-0 w.in-Err.ensures.answer)
+          subst (λ (n : ℕ). take n c.write_entry.new.bytes ≡ bytes_of e) (sym w.count-is)
+          (filed_no e few (replicate 21 0) c.write_entry.new.bytes refl c.write_entry.ensures.after w.in-Err.field-0 w.in-Err.ensures.answer)
     ]

@@ -5,5 +5,5 @@ use Rattle.key.proofs.robust.lowest_gaining.Goals as goal
 
 pub returns : goal.returns
 returns c =
-    simp (c.as-slice.ensures.is, c.as-slice-2.ensures.is, c.as-slice-3.ensures.is) at c.lowest-missing.ensures
+    simp (c.as_slice.ensures.is, c.as_slice-2.ensures.is, c.as_slice-3.ensures.is) at c.lowest_missing.ensures
     ∙ gaining (clauses_of c.args.old) (clauses_of c.args.new) (clauses_of c.args.hand)

@@ -7,6 +7,6 @@ use Rattle.key.proofs.robust.lowest_gaining_with.Goals as goal
 pub returns : goal.returns
 returns c =
     c.earlier.ensures
-    ∙ ap (λ o. earlierOf o c.lowest-gaining-by-record.result) c.lowest-gaining-by-task.ensures
-    ∙ ap (earlierOf _) c.lowest-gaining-by-record.ensures
+    ∙ ap (λ o. earlierOf o c.lowest_gaining-by_record.result) c.lowest_gaining-by_task.ensures
+    ∙ ap (earlierOf _) c.lowest_gaining-by_record.ensures
     ∙ by_hands (clauses_of c.args.old) (clauses_of c.args.new) (clauses_of c.args.record) (clauses_of c.args.task)

@@ -16,19 +16,19 @@ limit a b c d = record { high = record { sight = a; hand = b }; low = record { s
 abbrev low : State → BoundsWords → (Limits → Ruled) → List ℕ → List ℕ → Ruled
 low t w next a b = reducing t (written w.low_sight) (λ c. reducing t (written w.low_hand) (λ d. next (limit a b c d)))
 
-pub returns-in-err-high : goal.returns-in-err-high
-returns-in-err-high c =
-    let p = err_from_is_err_and c.from-residual.result c.from-residual.ensures.1 in
-    rw (p.1, p.2) (λ t next. c.in-err-high.ensures t (low t c.args.words next))
+pub returns-in_err-high : goal.returns-in_err-high
+returns-in_err-high c =
+    let p = err_from_is_err_and c.from_residual.result c.from_residual.ensures.1 in
+    rw (p.1, p.2) (λ t next. c.in_err-high.ensures t (low t c.args.words next))
 
-pub returns-in-err-low : goal.returns-in-err-low
-returns-in-err-low c =
-    let p = err_from_is_err_and c.from-residual-in-err-low.result c.from-residual-in-err-low.ensures.1 in
-    let h = c.in-ok-high.high in
+pub returns-in_err-low : goal.returns-in_err-low
+returns-in_err-low c =
+    let p = err_from_is_err_and c.from_residual-in_err-low.result c.from_residual-in_err-low.ensures.1 in
+    let h = c.in_ok-high.high in
     rw (p.1, p.2)
-    (λ t next. c.in-ok-high.ensures t (low t c.args.words next) ∙ c.in-err-low.ensures t (λ x y. next (limit (clauses_of h.sight.0) (clauses_of h.hand.0) x y)))
+    (λ t next. c.in_ok-high.ensures t (low t c.args.words next) ∙ c.in_err-low.ensures t (λ x y. next (limit (clauses_of h.sight.0) (clauses_of h.hand.0) x y)))
 
 pub returns : goal.returns
 returns c =
-    let h = c.in-ok-high.high in
-    λ t next. c.in-ok-high.ensures t (low t c.args.words next) ∙ c.in-ok-low.ensures t (λ x y. next (limit (clauses_of h.sight.0) (clauses_of h.hand.0) x y))
+    let h = c.in_ok-high.high in
+    λ t next. c.in_ok-high.ensures t (low t c.args.words next) ∙ c.in_ok-low.ensures t (λ x y. next (limit (clauses_of h.sight.0) (clauses_of h.hand.0) x y))

@@ -23,36 +23,36 @@ behind t w key next p = bounding t w (wrapping w (key p) next)
 abbrev over : Mode → List ℕ → Meaning
 over m p = robust m (plain p)
 
-pub returns-in-err-bounds : goal.returns-in-err-bounds
-returns-in-err-bounds c =
-    let e = err_from_is_err_and c.from-residual-in-err-bounds.result c.from-residual-in-err-bounds.ensures.1 in
+pub returns-in_err-bounds : goal.returns-in_err-bounds
+returns-in_err-bounds c =
+    let e = err_from_is_err_and c.from_residual-in_err-bounds.result c.from_residual-in_err-bounds.ensures.1 in
     let w = c.in-Bounded.words in
-    let p = clauses_of c.in-ok-below-2.below.formula in
+    let p = clauses_of c.in_ok-below-2.below.formula in
     rw (e.1, e.2)
     (λ t next. ap (λ k. with_key t (key_say k) next) c.in-Bounded.is
-    ∙ (c.in-ok-below-2.ensures t (behind t w plain next) ∙ c.in-err-bounds.ensures t (wrapping w (plain p) next)))
+    ∙ (c.in_ok-below-2.ensures t (behind t w plain next) ∙ c.in_err-bounds.ensures t (wrapping w (plain p) next)))
 
-pub returns-in-err-bounds-2 : goal.returns-in-err-bounds-2
-returns-in-err-bounds-2 c =
-    let e = err_from_is_err_and c.from-residual-in-err-bounds-2.result c.from-residual-in-err-bounds-2.ensures.1 in
+pub returns-in_err-bounds-2 : goal.returns-in_err-bounds-2
+returns-in_err-bounds-2 c =
+    let e = err_from_is_err_and c.from_residual-in_err-bounds-2.result c.from_residual-in_err-bounds-2.ensures.1 in
     let w = c.in-BoundedRobust.words in
     let m = c.in-BoundedRobust.mode in
-    let p = clauses_of c.in-ok-below-3.below.formula in
+    let p = clauses_of c.in_ok-below-3.below.formula in
     rw (e.1, e.2)
     (λ t next. ap (λ k. with_key t (key_say k) next) c.in-BoundedRobust.is
-    ∙ (c.in-ok-below-3.ensures t (behind t w (over m) next) ∙ c.in-err-bounds-2.ensures t (wrapping w (over m p) next)))
+    ∙ (c.in_ok-below-3.ensures t (behind t w (over m) next) ∙ c.in_err-bounds-2.ensures t (wrapping w (over m p) next)))
 
-pub returns-in-ok-bounds : goal.returns-in-ok-bounds
-returns-in-ok-bounds c =
+pub returns-in_ok-bounds : goal.returns-in_ok-bounds
+returns-in_ok-bounds c =
     let w = c.in-Bounded.words in
-    let p = clauses_of c.in-ok-below-2.below.formula in
+    let p = clauses_of c.in_ok-below-2.below.formula in
     λ t next. ap (λ k. with_key t (key_say k) next) c.in-Bounded.is
-    ∙ (c.in-ok-below-2.ensures t (behind t w plain next) ∙ c.in-ok-bounds.ensures t (wrapping w (plain p) next))
+    ∙ (c.in_ok-below-2.ensures t (behind t w plain next) ∙ c.in_ok-bounds.ensures t (wrapping w (plain p) next))
 
-pub returns-in-ok-bounds-2 : goal.returns-in-ok-bounds-2
-returns-in-ok-bounds-2 c =
+pub returns-in_ok-bounds-2 : goal.returns-in_ok-bounds-2
+returns-in_ok-bounds-2 c =
     let w = c.in-BoundedRobust.words in
     let m = c.in-BoundedRobust.mode in
-    let p = clauses_of c.in-ok-below-3.below.formula in
+    let p = clauses_of c.in_ok-below-3.below.formula in
     λ t next. ap (λ k. with_key t (key_say k) next) c.in-BoundedRobust.is
-    ∙ (c.in-ok-below-3.ensures t (behind t w (over m) next) ∙ c.in-ok-bounds-2.ensures t (wrapping w (over m p) next))
+    ∙ (c.in_ok-below-3.ensures t (behind t w (over m) next) ∙ c.in_ok-bounds-2.ensures t (wrapping w (over m p) next))

@@ -6,18 +6,18 @@ use Rattle.words.proofs.clauses.is_clauses.Goals as goal
 
 pub returns-in-None : goal.returns-in-None
 returns-in-None c =
-    sym (c.loop-behind.invariant ∙ hex_none _ _ c.cut.result.1 c.cut.ensures.parts (sym c.hex-four.ensures ∙ c.in-None.is))
+    sym (c.loop-behind.invariant ∙ hex_none _ _ c.cut.result.1 c.cut.ensures.parts (sym c.hex_four.ensures ∙ c.in-None.is))
 
 pub returns-in-None-more : goal.returns-in-None-more
 returns-in-None-more c =
     sym (c.loop-behind.invariant
-    ∙ (hex_more _ _ c.cut.result.1 c.in-Some.field-0 c.cut.ensures.parts (sym c.hex-four.ensures ∙ c.in-Some.is)
+    ∙ (hex_more _ _ c.cut.result.1 c.in-Some.field-0 c.cut.ensures.parts (sym c.hex_four.ensures ∙ c.in-Some.is)
     ∙ ap (λ (o : Option (Bor (List ℕ))). is_some (hex_all (parts_of 46 o))) c.in-None-more.is))
 
 pub loop-behind-preserved : goal.loop-behind-preserved
 loop-behind-preserved c =
     c.loop-behind.invariant
-    ∙ (hex_more _ _ c.cut.result.1 c.in-Some.field-0 c.cut.ensures.parts (sym c.hex-four.ensures ∙ c.in-Some.is)
+    ∙ (hex_more _ _ c.cut.result.1 c.in-Some.field-0 c.cut.ensures.parts (sym c.hex_four.ensures ∙ c.in-Some.is)
     ∙ ap (λ (o : Option (Bor (List ℕ))). is_some (hex_all (parts_of 46 o))) c.in-Some-more.is)
 
 pub loop-behind-smaller : goal.loop-behind-smaller

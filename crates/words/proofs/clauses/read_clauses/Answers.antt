@@ -22,7 +22,7 @@ returns-in-None-more c =
     let x = c.in-Some.clause in
     let p =
     v.2
-    ∙ (gather_more _ c.cut.result.0.now v.0 c.cut.result.1 x c.cut.ensures.parts (sym c.hex-four.ensures ∙ c.in-Some.is)
+    ∙ (gather_more _ c.cut.result.0.now v.0 c.cut.result.1 x c.cut.ensures.parts (sym c.hex_four.ensures ∙ c.in-Some.is)
     ∙ ap (λ (o : Option (Bor (List ℕ))). after (v.0 ++ (x ∷ [])) (hex_all (parts_of 46 o))) c.in-None-more.is) in
     c.reduce.ensures (v.0 ++ (x ∷ [])) (c.push.ensures v.0 v.1)
     ∙ sym (ap reduces (ap or_none p ∙ append-nil (v.0 ++ (x ∷ []))))
@@ -39,6 +39,6 @@ loop-clause-preserved c =
       v.0 ++ (x ∷ []),
       c.push.ensures v.0 v.1,
       v.2
-          ∙ (gather_more _ c.cut.result.0.now v.0 c.cut.result.1 x c.cut.ensures.parts (sym c.hex-four.ensures ∙ c.in-Some.is)
+          ∙ (gather_more _ c.cut.result.0.now v.0 c.cut.result.1 x c.cut.ensures.parts (sym c.hex_four.ensures ∙ c.in-Some.is)
           ∙ ap (λ (o : Option (Bor (List ℕ))). after (v.0 ++ (x ∷ [])) (hex_all (parts_of 46 o))) c.in-Some-more.is),
     )

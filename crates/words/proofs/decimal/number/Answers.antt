@@ -19,19 +19,19 @@ step : (w : List ℕ) (i n : ℕ) (d : Option ℕ) → i < length w → digit_of
 step w i n d h e =
     at_drop_more (decimal_after (Some n)) w i 0 h ∙ ap (λ (x : Option ℕ). decimal_after (tens (Some n) x) (drop (i + 1) w)) e
 
-pub returns-in-err-d : goal.returns-in-err-d
-returns-in-err-d c =
+pub returns-in_err-d : goal.returns-in_err-d
+returns-in_err-d c =
     let w = c.args.word.now in
-    c.from-residual.ensures
+    c.from_residual.ensures
     ∙ sym (long w (omega arith) (omega arith)
-    ∙ (sym c.loop-byte.invariant.0 ∙ (step w c.loop-byte.byte-index c.loop-byte.n None (omega arith) (sym c.in-err-d.ensures.value) ∙ after_none (drop (c.loop-byte.byte-index + 1) w))))
+    ∙ (sym c.loop-byte.invariant.0 ∙ (step w c.loop-byte.byte-index c.loop-byte.n None (omega arith) (sym c.in_err-d.ensures.value) ∙ after_none (drop (c.loop-byte.byte-index + 1) w))))
 
 pub loop-byte-preserved : goal.loop-byte-preserved
 loop-byte-preserved c =
     let w = c.args.word.now in
-    let e = c.in-ok-d.ensures in (
+    let e = c.in_ok-d.ensures in (
       ap (λ (k : ℕ). decimal_after (Some (10 * c.loop-byte.n + k)) (drop (c.loop-byte.byte-index + 1) w)) c.from.ensures
-          ∙ (sym (step w c.loop-byte.byte-index c.loop-byte.n (Some c.in-ok-d.d) (omega arith) (sym e.value)) ∙ c.loop-byte.invariant.0),
+          ∙ (sym (step w c.loop-byte.byte-index c.loop-byte.n (Some c.in_ok-d.d) (omega arith) (sym e.value)) ∙ c.loop-byte.invariant.0),
       omega (arith, pow-add 10 c.loop-byte.byte-index 1, e.small, c.loop-byte.invariant.1),
     )
 

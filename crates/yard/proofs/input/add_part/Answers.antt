@@ -22,6 +22,6 @@ returns c =
     record {
       small = search rules;
       added =
-          c.extend-from-slice.ensures.items
-          ∙ ap (λ (l : List ℕ). cond (is_ok c.extend-from-slice.result) l xs) (ap (λ (k : ℕ). xs ++ take k ys) (sub-zero n) ∙ filled xs ys 4097 n (omega (arith, c.args.line.now.ok.0)) (omega (arith, c.min-n.ensures, c.len-room.ensures, c.args.line.now.ok.0)));
+          c.extend_from_slice.ensures.items
+          ∙ ap (λ (l : List ℕ). cond (is_ok c.extend_from_slice.result) l xs) (ap (λ (k : ℕ). xs ++ take k ys) (sub-zero n) ∙ filled xs ys 4097 n (omega (arith, c.args.line.now.ok.0)) (omega (arith, c.min-n.ensures, c.len-room.ensures, c.args.line.now.ok.0)));
     }

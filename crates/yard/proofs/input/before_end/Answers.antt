@@ -14,7 +14,7 @@ loop-start-preserved c =
             | inr l ↦
                 let i : ℕ = k - start in
                 let here : start + i ≡ k = omega arith in
-                c.has-end.ensures c.if-has-end.false i (omega (arith, length-between bytes start (start + 32) (omega arith)))
+                c.has_end.ensures c.if-has_end.false i (omega (arith, length-between bytes start (start + 32) (omega arith)))
                 (get_or-between bytes start (start + 32) i 0 (omega arith) ∙ ap (λ (m : ℕ). get_or bytes m 0) here ∙ e)
           ],
     )

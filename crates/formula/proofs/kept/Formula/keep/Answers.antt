@@ -15,11 +15,11 @@ returns-then-list-gt8 c =
       law = kept_is_reduced;
     }
 
-pub returns-then-not-is-ordered : goal.returns-then-not-is-ordered
-returns-then-not-is-ordered c =
+pub returns-then-not-is_ordered : goal.returns-then-not-is_ordered
+returns-then-not-is_ordered c =
     let xs = c.args.list.now in
     record {
-      answer = sym (cond-false (kept xs) (Some xs) None (and_right (leb (length xs) 8) (ordered xs) (sym c.if-not-is-ordered.ensures)));
+      answer = sym (cond-false (kept xs) (Some xs) None (and_right (leb (length xs) 8) (ordered xs) (sym c.if-not-is_ordered.ensures)));
       law = kept_is_reduced;
     }
 
@@ -38,10 +38,10 @@ pub invariant-of-result : goal.invariant-of-result
 invariant-of-result c =
     let xs = c.args.list.now in
     let ys = c.loop-i.clauses in
-    let fits : (k : ℕ) → get_or xs k 0 < 65536 = λ k. let h = c.type-inv.list k in omega arith in
+    let fits : (k : ℕ) → get_or xs k 0 < 65536 = λ k. let h = c.type_inv.list k in omega arith in
     let all : c.loop-i.i ≡ length xs = omega arith in
     let same = c.loop-i.invariant.1 in
-    let yes : ordered xs ≡ true = sym c.if-not-is-ordered.ensures in
+    let yes : ordered xs ≡ true = sym c.if-not-is_ordered.ensures in
     let unused : Unused ys (length xs) = λ i h. c.loop-i.invariant.2 i (omega arith) in (
       omega arith,
       (
@@ -57,7 +57,7 @@ pub returns : goal.returns
 returns c =
     let xs = c.args.list.now in
     let all : c.loop-i.i ≡ length xs = omega arith in
-    let yes : ordered xs ≡ true = sym c.if-not-is-ordered.ensures in
+    let yes : ordered xs ≡ true = sym c.if-not-is_ordered.ensures in
     record {
       answer =
           ap (λ (l : List ℕ). Some l) (copied_whole xs c.loop-i.clauses c.loop-i.i c.loop-i.invariant.1 all)

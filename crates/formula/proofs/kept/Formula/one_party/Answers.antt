@@ -9,7 +9,7 @@ returns c =
     let k = c.args.party.number in
     let one : Means (2 ^ k ∷ []) (Member k) =
     λ g h. (λ m. (one_party k g c.args.party.known h).0 m.0, λ m. ((one_party k g c.args.party.known h).1 m, tt)) in
-    let clauses = c.of-clause.ensures ∙ ap (λ (x : ℕ). x ∷ []) c.alone.ensures in
+    let clauses = c.of_clause.ensures ∙ ap (λ (x : ℕ). x ∷ []) c.alone.ensures in
     record {
       clauses = clauses;
       means = subst (λ (l : List ℕ). Means l (Member k)) (sym clauses) one;

@@ -9,13 +9,13 @@ use Rattle.formula.proofs.kept.Formula.shrink.Goals as goal
 
 pub returns-in-len1 : goal.returns-in-len1
 returns-in-len1 c =
-    let fits : (k : ℕ) → get_or c.args.list.now k 0 < 65536 = λ k. let h = c.type-inv.list k in omega arith in
-    let one = one_reduced c.args.list.now (clauses_of c.of-clause.result) (omega (arith, ltb-true, ltb-false)) fits c.of-clause.ensures in
+    let fits : (k : ℕ) → get_or c.args.list.now k 0 < 65536 = λ k. let h = c.type_inv.list k in omega arith in
+    let one = one_reduced c.args.list.now (clauses_of c.of_clause.result) (omega (arith, ltb-true, ltb-false)) fits c.of_clause.ensures in
     record { answer = one.0; means = λ g _. (subst (λ (l : List ℕ). Meets l g) one.1, subst (λ (l : List ℕ). Meets l g) (sym one.1)) }
 
 pub returns-then-count-eq8 : goal.returns-then-count-eq8
 returns-then-count-eq8 c =
-    let fits : (k : ℕ) → get_or c.args.list.now k 0 < 65536 = λ k. let h = c.type-inv.list k in omega arith in
+    let fits : (k : ℕ) → get_or c.args.list.now k 0 < 65536 = λ k. let h = c.type_inv.list k in omega arith in
     let none : (ys : List ℕ) → length ys ≤ 8 → Means ys (Meets c.args.list.now) → ⊥ =
     λ ys short m. crowded c.args.list.now c.loop-clause.clauses c.loop-clause.count c.in-Some.clause fits
     c.loop-clause.invariant.0 c.loop-clause.invariant.1 c.loop-clause.invariant.3 (simp sub-zero at c.in-Some.ensures) c.if-count-eq8.true ys short (λ g h. (m g h).1, λ g h. (m g h).0) in
@@ -23,7 +23,7 @@ returns-then-count-eq8 c =
 
 pub loop-clause-preserved : goal.loop-clause-preserved
 loop-clause-preserved c =
-    let fits : (k : ℕ) → get_or c.args.list.now k 0 < 65536 = λ k. let h = c.type-inv.list k in omega arith in (
+    let fits : (k : ℕ) → get_or c.args.list.now k 0 < 65536 = λ k. let h = c.type_inv.list k in omega arith in (
       length-set _ _ _ ∙ c.loop-clause.invariant.0,
       omega arith,
       still_unused _ _ _ c.loop-clause.invariant.2,
@@ -33,8 +33,8 @@ loop-clause-preserved c =
 
 pub returns : goal.returns
 returns c =
-    let fits : (k : ℕ) → get_or c.args.list.now k 0 < 65536 = λ k. let h = c.type-inv.list k in omega arith in
-    let same = reduces c.args.list.now c.loop-clause.clauses c.loop-clause.count fits (omega (arith, c.loop-clause.invariant.0)) c.loop-clause.invariant.3 (simp sub-zero at c.in-default-least-beside.ensures) in
+    let fits : (k : ℕ) → get_or c.args.list.now k 0 < 65536 = λ k. let h = c.type_inv.list k in omega arith in
+    let same = reduces c.args.list.now c.loop-clause.clauses c.loop-clause.count fits (omega (arith, c.loop-clause.invariant.0)) c.loop-clause.invariant.3 (simp sub-zero at c.in_default-least_beside.ensures) in
     let means : Means (take c.loop-clause.count c.loop-clause.clauses) (Meets c.args.list.now) = λ g h. (same.1 g h, same.0 g h) in
     let ch = c.loop-clause.invariant.3 in
     record {
@@ -44,6 +44,6 @@ returns c =
 
 pub invariant-of-result : goal.invariant-of-result
 invariant-of-result c =
-    let fits : (k : ℕ) → get_or c.args.list.now k 0 < 65536 = λ k. let h = c.type-inv.list k in omega arith in
+    let fits : (k : ℕ) → get_or c.args.list.now k 0 < 65536 = λ k. let h = c.type_inv.list k in omega arith in
     let ch = c.loop-clause.invariant.3 in
     (c.loop-clause.invariant.1, (c.loop-clause.invariant.2, (ch.rising, (ch.apart, (chosen_fits c.args.list.now _ _ fits c.loop-clause.invariant.2 ch, tt)))))

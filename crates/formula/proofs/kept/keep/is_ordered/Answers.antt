@@ -13,13 +13,13 @@ judged xs i b h e =
     ∙ ap (λ (a : Bool). a && ordered (drop (i + 1) xs))
     (ap (apart_all (get_or xs i 0)) (sym (between_to_end xs (i + 1) (length xs) (omega arith))) ∙ sym e)
 
-pub returns-then-not-all-apart : goal.returns-then-not-all-apart
-returns-then-not-all-apart c =
-    sym (sym c.loop-i.invariant ∙ judged c.args.list.now c.loop-i.i _ (omega arith) c.if-not-all-apart.ensures)
+pub returns-then-not-all_apart : goal.returns-then-not-all_apart
+returns-then-not-all_apart c =
+    sym (sym c.loop-i.invariant ∙ judged c.args.list.now c.loop-i.i _ (omega arith) c.if-not-all_apart.ensures)
 
 pub loop-i-preserved : goal.loop-i-preserved
 loop-i-preserved c =
-    sym (judged c.args.list.now c.loop-i.i _ (omega arith) c.if-not-all-apart.ensures) ∙ c.loop-i.invariant
+    sym (judged c.args.list.now c.loop-i.i _ (omega arith) c.if-not-all_apart.ensures) ∙ c.loop-i.invariant
 
 pub returns : goal.returns
 returns c = sym (sym c.loop-i.invariant ∙ at_drop_all ordered c.args.list.now c.loop-i.i (omega arith))

@@ -5,23 +5,23 @@ use Rattle.label.specs.Tests.{covered_within}
 use Rattle.label.proofs.Order.{flows_by_groups, flows_order}
 use Rattle.label.proofs.label.Label.flows_to.Goals as goal
 
-pub returns-then-sight-flows : goal.returns-then-sight-flows
-returns-then-sight-flows c =
+pub returns-then-sight_flows : goal.returns-then-sight_flows
+returns-then-sight_flows c =
     let a = labelled c.args.self.now in
     let b = labelled c.args.other.now in
     record {
-      answer = and_yes _ _ _ (same_from_decides _ _ c.if-sight-flows.ensures (covered_within (unseeing a) (unseeing b)))
-          (same_from_decides _ _ c.hand-flows.ensures (covered_within (handed a) (handed b)));
+      answer = and_yes _ _ _ (same_from_decides _ _ c.if-sight_flows.ensures (covered_within (unseeing a) (unseeing b)))
+          (same_from_decides _ _ c.hand_flows.ensures (covered_within (handed a) (handed b)));
       groups = flows_by_groups;
       order = flows_order;
     }
 
-pub returns-else-sight-flows : goal.returns-else-sight-flows
-returns-else-sight-flows c =
+pub returns-else-sight_flows : goal.returns-else-sight_flows
+returns-else-sight_flows c =
     let a = labelled c.args.self.now in
     let b = labelled c.args.other.now in
     record {
-      answer = and_no _ _ _ (same_from_decides _ _ c.if-sight-flows.ensures (covered_within (unseeing a) (unseeing b))) c.if-sight-flows.false;
+      answer = and_no _ _ _ (same_from_decides _ _ c.if-sight_flows.ensures (covered_within (unseeing a) (unseeing b))) c.if-sight_flows.false;
       groups = flows_by_groups;
       order = flows_order;
     }

@@ -4,4 +4,4 @@ use Rattle.lines.proofs.Taking.{took}
 use Rattle.lines.proofs.words_left.WordsLeft.word.Goals as goal
 
 pub returns : goal.returns
-returns c = took _ _ c.cut.result.0 c.cut.result.1 (ap left_of c.in-ok-line.was) c.cut.ensures.parts
+returns c = took _ _ c.cut.result.0 c.cut.result.1 (ap left_of c.in_ok-line.was) c.cut.ensures.parts

@@ -8,4 +8,4 @@ use Rattle.monitor.proofs.monitor.Monitor.close.Goals as goal
 pub invariant-of-self : goal.invariant-of-self
 invariant-of-self c =
     let m = c.args.self.now in
-    sound_task (view c.set-task.new.self) (view m.tables) c.args.task _ c.set-task.ensures refl m.records m.tasks
+    sound_task (view c.set_task.new.self) (view m.tables) c.args.task _ c.set_task.ensures refl m.records m.tasks

@@ -8,4 +8,4 @@ use Rattle.monitor.proofs.monitor.Monitor.enter.Goals as goal
 pub invariant-of-self : goal.invariant-of-self
 invariant-of-self c =
     let m = c.args.self.now in
-    sound_record (view c.set-record.new.self) (view m.tables) c.args.record _ c.set-record.ensures (le-leb c.args.figure 999999999 (omega arith)) m.records m.tasks
+    sound_record (view c.set_record.new.self) (view m.tables) c.args.record _ c.set_record.ensures (le-leb c.args.figure 999999999 (omega arith)) m.records m.tasks

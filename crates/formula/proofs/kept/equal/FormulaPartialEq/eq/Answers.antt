@@ -8,8 +8,8 @@ pub returns : goal.returns
 returns c =
     let a = c.args.self.now in
     let b = c.args.other.now in
-    let same = slice_eq-Decides Decides-eqb (clauses_of a) (clauses_of b) _ c.same-clauses.ensures in (
+    let same = slice_eq-Decides Decides-eqb (clauses_of a) (clauses_of b) _ c.same_clauses.ensures in (
       same,
-      Decides-like c.same-clauses.result (alike_itself (clauses_of a) (clauses_of b))
+      Decides-like c.same_clauses.result (alike_itself (clauses_of a) (clauses_of b))
           (take_same a.clauses b.clauses a.count b.count a.fits b.fits a.rising a.apart b.rising b.apart) same,
     )
