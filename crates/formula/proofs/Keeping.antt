@@ -3,7 +3,7 @@ use Rattle.std.proofs.Common.{◌≡◌, ℕ, suc, ◌<◌, true, false, not, eq
 use lib.Bits.{bit_and, and_le_l}
 use Rattle.std.specs.List.{AllByRecursion as All}
 use Rattle.std.proofs.ByRecursion.{All-from_get_or}
-use Rattle.std.proofs.lemmas.Bool.{and_parts, and_from, lt-ltb, ltb-true, le-leb, leb-true, eqb-true, eqb-false, ne_eqb, not_true, not-false, not_from_false, and_cases, and_left, cases_lt, cases_Bool, cond-true, cond-false}
+use Rattle.std.proofs.lemmas.Bool.{and_parts, and_from, lt-ltb, ltb-true, le-leb, leb-true, eqb-true, eqb-false, ne_eqb, not-true, not-false, not_from_false, and_cases, and_left, cases_lt, cases_Bool, cond-true, cond-false}
 use Rattle.std.proofs.lemmas.List.{take_all, get_or-take}
 use Rattle.answer.specs.Told.{granted}
 use Rattle.clause.specs.Reduced.{wider, reduced}
@@ -32,7 +32,7 @@ beside : (c d : ℕ) → apart c d ≡ true → Beside c d
 beside c d e =
     let h = and_parts (ltb c d) (not (wider d c)) e in
     let l = ltb-true c d h.0 in
-    (l, less c d l (not_true (wider d c) h.1))
+    (l, less c d l (not-true (wider d c) h.1))
 
 apart_yes : (c d : ℕ) → Beside c d → apart c d ≡ true
 apart_yes c d h =

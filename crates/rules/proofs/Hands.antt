@@ -1,11 +1,11 @@
 -- What a group's members enter moves no record without its hand, and no robust release that lets it in.
 use Rattle.std.proofs.Common.{◌≡◌, ℕ, zero, suc, ◌<◌, Bool, true, false, not, ◌&&◌, ◌||◌, ltb, ◌⊎◌, List, [], ◌∷◌, get_or, set, Ok, Err, sym, refl, ap, ◌∙◌, subst, inl, inr, true≢false}
-use Rattle.std.proofs.lemmas.Bool.{both_ways, and_parts, not_true}
+use Rattle.std.proofs.lemmas.Bool.{both_ways, and_parts, not-true}
 use Rattle.answer.specs.declared.Refusal.TheVariants.{Denied}
 use Rattle.answer.specs.Told.{Told, granted, refused}
 use Rattle.answer.proofs.Telling.{refuses}
 use Rattle.clause.specs.Groups.{met}
-use Rattle.clause.proofs.Tests.{met_decides, not_true as not_yes}
+use Rattle.clause.proofs.Tests.{met_decides, not-true as not_yes}
 use Rattle.formula.specs.Party.{alone}
 use Rattle.formula.specs.Forms.{either}
 use Rattle.label.specs.declared.kind.Kind.{Kind}
@@ -129,7 +129,7 @@ robustly g b t u w k i f key law lets =
     let off : handed p.h g ≡ false =
     not_yes (handed p.h g)
     (λ e. law (request_for Release p.h f p.l) refl p.grants g b
-    (((met_decides f g).0 both.0, λ m. both_ways (sees p.h g) (not_true (sees p.h g) both.1) ((met_decides p.h.sight g).1 m)), inl ((met_decides p.h.hand g).0 e))) in
+    (((met_decides f g).0 both.0, λ m. both_ways (sees p.h g) (not-true (sees p.h g) both.1) ((met_decides p.h.sight g).1 m)), inl ((met_decides p.h.hand g).0 e))) in
     let q = partner _ _ p.n p.h (w.records i) p.record_is in
     let s = partner _ _ p.a p.l (w.tasks k) p.task_is in
     let one : p.n ≡ q.0 = q.2 off in (

@@ -8,7 +8,7 @@ sought-preserved c = below_more _ _ c.sought.invariant (c.loop-narrow.narrow-ind
 
 pub returns-in-sought : goal.returns-in-sought
 returns-in-sought c =
-    let fits : (k : ℕ) → get_or c.args.first.now k 0 < 65536 = λ k. let h = c.ok.first k in omega arith in (
+    let fits : (k : ℕ) → get_or c.args.first.now k 0 < 65536 = λ k. let h = c.type_inv.first k in omega arith in (
       λ e. absurd (false≢true e),
       λ imp. absurd (refuted c.args.first.now c.args.second.now c.sought.wide-index c.sought-test.true (omega arith)
           (λ k h. (fits k, c.loop-narrow.invariant k (omega arith))) imp),
@@ -16,7 +16,7 @@ returns-in-sought c =
 
 pub returns : goal.returns
 returns c =
-    let fits : (k : ℕ) → get_or c.args.first.now k 0 < 65536 = λ k. let h = c.ok.first k in omega arith in (
+    let fits : (k : ℕ) → get_or c.args.first.now k 0 < 65536 = λ k. let h = c.type_inv.first k in omega arith in (
       λ _. implied c.args.first.now c.args.second.now
           (λ j h. let w = c.sought.invariant j (omega arith) in (w.0, w.1, fits w.0, w.2)),
       λ _. refl,

@@ -1,16 +1,18 @@
 ghost use Rattle.std.specs.Prelude.{◌≡◌, Decides};
-ghost use Rattle.std.specs.Cmp.Lexicographic.{Matches};
+ghost use Rattle.std.specs.Cmp.Lexicographic.{pointwise, on_texts_equal};
+ghost use Rattle.std.specs.Cmp.Rules.{comparing};
+ghost use Rattle.std.specs.Bool.{nat_eq};
+ghost use Rattle.std.specs.Ordering.{on};
+ghost use Rattle.std.proofs.Common.{rules};
 ghost use Rattle.clause.specs.Meaning.{Alike};
 ghost use Rattle.formula.specs.Of.{clauses_of};
-ghost use Rattle.std.specs.Cmp.Rules.{comparing};
-ghost use Rattle.std.proofs.Common.{rules, arith};
 
 use super::Formula;
 
 impl Formula {
     /// Tells whether the two have the same clauses.
     fn same_clauses(&self, other: &Formula) -> bool
-        ensures { Matches (λ a b same. Decides same (a ≡ b)) (clauses_of self.now) (clauses_of other.now) result }
+        ensures { result ≡ pointwise nat_eq (clauses_of self.now) (clauses_of other.now) }
     {
         self.clauses[..self.count] == other.clauses[..other.count]
     }
@@ -18,11 +20,15 @@ impl Formula {
 
 // Kept forms have the same clauses exactly when the same groups meet them.
 impl PartialEq for Formula {
-    ghost equals = { λ a b r. Decides r (clauses_of a ≡ clauses_of b) × Decides r (Alike (clauses_of a) (clauses_of b)) };
+    ghost eq = { on clauses_of (pointwise nat_eq) };
 
-    ghost laws = { first_of (Prim.search (comparing, rules), Prim.grind (arith, Self.row.coded.inj)) };
+    ghost laws = { Prim.search (comparing, rules) };
 
-    fn eq(&self, other: &Formula) -> bool {
+    fn eq(&self, other: &Formula) -> bool
+        ensures answer { result ≡ pointwise nat_eq (clauses_of self.now) (clauses_of other.now) }
+        ensures clauses { Decides result (clauses_of self.now ≡ clauses_of other.now) }
+        ensures means { Decides result (Alike (clauses_of self.now) (clauses_of other.now)) }
+    {
         self.same_clauses(other)
     }
 }

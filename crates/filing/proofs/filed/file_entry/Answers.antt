@@ -6,8 +6,8 @@ use Rattle.filing.proofs.Bytes.{filed_ok, filed_no}
 use Rattle.filing.proofs.filed.file_entry.Goals as goal
 use Rattle.filing.proofs.filed.file_entry.Goals.{in-Ok, in-Err}
 
-pub invariant-of-result : goal.invariant-of-result
-invariant-of-result c =
+pub invariant_of-result : goal.invariant_of-result
+invariant_of-result c =
     let e = plain_of c.args.item.now in
     let few = eight c.args.item.now.new in
     let small : c.match-write_entry.count ≤ 21 =

@@ -31,8 +31,8 @@ nonzero-rem-held c =
     let small = c.loop-count.invariant.1 in
     omega (arith, one_shl m 32 (omega arith), pow_pos m)
 
-pub invariant-of-result : goal.invariant-of-result
-invariant-of-result c = (omega arith, (c.loop-count.invariant.0, tt))
+pub invariant_of-result : goal.invariant_of-result
+invariant_of-result c = (omega arith, (c.loop-count.invariant.0, tt))
 
 pub loop-count-preserved : goal.loop-count-preserved
 loop-count-preserved c =

@@ -34,24 +34,21 @@ loop-i-preserved c =
       still_unused ys i _ c.loop-i.invariant.2,
     )
 
-pub invariant-of-result : goal.invariant-of-result
-invariant-of-result c =
+pub invariant_of-result : goal.invariant_of-result
+invariant_of-result c =
     let xs = c.args.list.now in
     let ys = c.loop-i.clauses in
     let fits : (k : ℕ) → get_or xs k 0 < 65536 = λ k. let h = c.type_inv.list k in omega arith in
     let all : c.loop-i.i ≡ length xs = omega arith in
     let same = c.loop-i.invariant.1 in
     let yes : ordered xs ≡ true = sym c.if-not-is_ordered.ensures in
-    let unused : Unused ys (length xs) = λ i h. c.loop-i.invariant.2 i (omega arith) in (
-      omega arith,
-      (
-        unused,
-        (
-          copied_rising xs ys c.loop-i.i same all (ordered_rises xs yes),
-          (copied_apart xs ys c.loop-i.i same all (ordered_antichain xs yes), (copied_fits xs ys c.loop-i.i same all c.loop-i.invariant.2 fits, tt)),
-        ),
-      ),
-    )
+    record {
+      small = omega arith;
+      unused = λ i h. c.loop-i.invariant.2 i (omega arith);
+      rising = copied_rising xs ys c.loop-i.i same all (ordered_rises xs yes);
+      apart = copied_apart xs ys c.loop-i.i same all (ordered_antichain xs yes);
+      fits = copied_fits xs ys c.loop-i.i same all c.loop-i.invariant.2 fits;
+    }
 
 pub returns : goal.returns
 returns c =

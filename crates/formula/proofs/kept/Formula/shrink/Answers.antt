@@ -42,8 +42,14 @@ returns c =
       means = means;
     }
 
-pub invariant-of-result : goal.invariant-of-result
-invariant-of-result c =
+pub invariant_of-result : goal.invariant_of-result
+invariant_of-result c =
     let fits : (k : ℕ) → get_or c.args.list.now k 0 < 65536 = λ k. let h = c.type_inv.list k in omega arith in
     let ch = c.loop-clause.invariant.3 in
-    (c.loop-clause.invariant.1, (c.loop-clause.invariant.2, (ch.rising, (ch.apart, (chosen_fits c.args.list.now _ _ fits c.loop-clause.invariant.2 ch, tt)))))
+    record {
+      small = c.loop-clause.invariant.1;
+      unused = c.loop-clause.invariant.2;
+      rising = ch.rising;
+      apart = ch.apart;
+      fits = chosen_fits c.args.list.now _ _ fits c.loop-clause.invariant.2 ch;
+    }

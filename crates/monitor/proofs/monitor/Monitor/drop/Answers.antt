@@ -6,7 +6,7 @@ use Rattle.monitor.proofs.monitor.Monitor.drop.Goals as goal
 pub set_record-requires : goal.set_record-requires
 set_record-requires c = c.in_ok-open.ensures.sound.1
 
-pub invariant-of-self : goal.invariant-of-self
-invariant-of-self c =
+pub invariant_of-self : goal.invariant_of-self
+invariant_of-self c =
     let m = c.args.self.now in
     sound_record (view c.set_record.new.self) (view m.tables) c.args.record _ c.set_record.ensures (search rules) m.records m.tasks

@@ -8,8 +8,11 @@ pub returns : goal.returns
 returns c =
     let a = c.args.self.now in
     let b = c.args.other.now in
-    let same = slice_eq-Decides Decides-eqb (clauses_of a) (clauses_of b) _ c.same_clauses.ensures in (
-      same,
-      Decides-like c.same_clauses.result (alike_itself (clauses_of a) (clauses_of b))
-          (take_same a.clauses b.clauses a.count b.count a.fits b.fits a.rising a.apart b.rising b.apart) same,
-    )
+    let same = slice_eq-Decides Decides-eqb (clauses_of a) (clauses_of b) _ c.same_clauses.ensures in
+    record {
+      answer = c.same_clauses.ensures;
+      clauses = same;
+      means =
+          Decides-like c.same_clauses.result (alike_itself (clauses_of a) (clauses_of b))
+          (take_same a.clauses b.clauses a.count b.count a.fits b.fits a.rising a.apart b.rising b.apart) same;
+    }
