@@ -1,4 +1,6 @@
 //! What is answered: a call that is done, a figure, or the refusal of one numbered question.
+#![tactic(auto)]
+
 mod convert;
 mod number;
 mod printed;

@@ -1,8 +1,7 @@
-use Rattle.std.proofs.Common.{◌≡◌, ℕ, zero, suc, ◌+◌, ◌-◌, ◌<◌, ◌≤◌, ◌⊎◌, List, length, get_or, sym, refl, ap, ◌∙◌, subst, inl, inr, arith}
+use Rattle.std.proofs.Common.{◌≡◌, ℕ, zero, suc, ◌-◌, ◌<◌, ◌≤◌, List, length, get_or, refl, ap, inl, inr, arith}
 use lib.Bits.{bit_and, and_self, and_le_r}
 use Rattle.std.proofs.lemmas.Bool.{cases_order}
 use Rattle.clause.specs.Meaning.{Alike}
-use Rattle.clause.specs.Parts.{Part}
 use Rattle.clause.proofs.Reducing.{Chosen, has_minimal}
 
 abbrev pub Rises : List ℕ → Type 0

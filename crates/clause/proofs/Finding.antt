@@ -1,4 +1,4 @@
-use Rattle.std.proofs.Common.{◌≡◌, ℕ, ◌+◌, ◌<◌, ◌≤◌, min, ◌⊎◌, List, length, get_or, Some, None, Option, sym, refl, subst, inl, inr, le_trans, le_refl, arith, below_more, MatchOption}
+use Rattle.std.proofs.Common.{◌≡◌, ℕ, ◌+◌, ◌<◌, ◌≤◌, min, List, get_or, Some, None, Option, sym, refl, subst, inl, inr, arith, below_more, MatchOption}
 use Rattle.std.proofs.lemmas.Bool.{cases_order}
 use Rattle.clause.specs.Parts.{Over, Least, Found}
 

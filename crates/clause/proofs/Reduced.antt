@@ -1,10 +1,10 @@
 -- A reduced list is rising, none of it contains another, and it means the same. Assumes nothing.
-use Rattle.std.proofs.Common.{◌≡◌, ℕ, zero, suc, ◌+◌, ◌*◌, ◌^◌, ◌<◌, ◌≤◌, Bool, true, false, cond, not, ◌&&◌, ◌||◌, eqb, ltb, ◌⊎◌, List, [], ◌∷◌, length, get_or, filter, sym, refl, ap, ◌∙◌, subst, inl, inr, true≢false, pow-suc, arith}
+use Rattle.std.proofs.Common.{◌≡◌, ℕ, zero, suc, ◌*◌, ◌^◌, ◌<◌, Bool, true, false, cond, not, eqb, ltb, ◌⊎◌, List, [], ◌∷◌, length, get_or, filter, sym, refl, ap, ◌∙◌, subst, inl, inr, true≢false, pow-suc, arith}
 use lib.Bits.{bit_and, and_le_l, and_le_r}
 use Rattle.std.specs.List.{AllByRecursion as All}
-use Rattle.std.proofs.ByRecursion.{All-weaker, all_kept_by, kept_by_passes, All-from_get_or, All-get_or}
-use Rattle.std.proofs.lemmas.Bool.{eqb-true, eqb-false, eq-eqb, ltb-true, ltb-false, and_parts, and_cases, and_from, or_cases, or_parts, cases_Bool, both_ways}
-use Rattle.clause.specs.Meaning.{Shares, Meets, Alike}
+use Rattle.std.proofs.ByRecursion.{All-weaker, all_kept_by, kept_by_passes, All-get_or}
+use Rattle.std.proofs.lemmas.Bool.{eqb-true, eqb-false, ltb-true, ltb-false, and_parts, and_cases, or_cases, or_parts, cases_Bool, both_ways}
+use Rattle.clause.specs.Meaning.{Shares, Alike}
 use Rattle.clause.proofs.Bitsets.{wider as widens}
 use Rattle.clause.proofs.Canonical.{Rises, Antichain}
 use Rattle.clause.specs.Reduced.{wider, some, minimal, placed, arranged, reduced}

@@ -1,9 +1,8 @@
-use Rattle.std.proofs.Common.{◌≡◌, ℕ, zero, suc, ◌+◌, ◌-◌, ◌%◌, ◌^◌, ◌<◌, ◌≤◌, ◌⊎◌, List, [], ◌∷◌, map, length, get_or, sym, refl, ap, ◌∙◌, subst, inl, inr, arith, below_more}
+use Rattle.std.proofs.Common.{◌≡◌, ℕ, zero, suc, ◌+◌, ◌%◌, ◌<◌, ◌≤◌, ◌⊎◌, List, [], ◌∷◌, map, length, get_or, sym, ap, ◌∙◌, subst, inl, inr, arith, below_more}
 use lib.ListN.{length-map}
 use lib.Bits.{bit_and, and_comm, and_self, and_le_l, and_le_r, and_mod}
 use Rattle.std.proofs.lemmas.Bool.{cases_eq}
-use Rattle.std.proofs.lemmas.List.{get_or-map}
-use Rattle.clause.specs.Meaning.{Shares, Meets, Implies, Alike}
+use Rattle.clause.specs.Meaning.{Meets, Implies, Alike}
 use Rattle.clause.specs.Parts.{Part, Over}
 use Rattle.clause.proofs.Bitsets.{part_trans}
 use Rattle.clause.proofs.Implying.{implied, refuted}

@@ -1,5 +1,5 @@
 -- A clause and a group share a party, by its number.
-use Rattle.std.proofs.Common.{◌≡◌, ℕ, zero, suc, ◌+◌, ◌*◌, ◌/◌, ◌%◌, ◌^◌, ◌<◌, min, ◌⊎◌, ◌↔◌, sym, refl, ap, ◌∙◌, subst, inl, inr, pow-suc, one-add, arith}
+use Rattle.std.proofs.Common.{◌≡◌, ℕ, zero, suc, ◌*◌, ◌/◌, ◌%◌, ◌^◌, ◌<◌, min, ◌↔◌, sym, refl, ap, ◌∙◌, subst, inl, inr, pow-suc, one-add, arith}
 use lib.Bits.{bit_and, and_step, and_zero_r}
 use Rattle.std.proofs.lemmas.Nat.{shr-shr}
 use Rattle.std.proofs.lemmas.Bool.{cases_eq}

@@ -1,10 +1,10 @@
 -- Tests over all groups, and what they decide. Assumes nothing.
-use Rattle.std.proofs.Common.{◌≡◌, ℕ, ◌<◌, Bool, true, false, not, ◌&&◌, ◌||◌, eqb, ◌⊎◌, List, [], ◌∷◌, Some, None, Decides, Option, sym, refl, ap, ◌∙◌, inl, inr, true≢false}
+use Rattle.std.proofs.Common.{◌≡◌, ℕ, ◌<◌, Bool, true, false, not, ◌&&◌, ◌||◌, eqb, ◌⊎◌, List, [], ◌∷◌, Some, None, Decides, Option, sym, refl, ap, inl, inr, true≢false}
 use lib.Bits.{bit_and}
 use Rattle.std.proofs.lemmas.Bool.{eqb-true, eq-eqb, both_ways, cases_Bool}
 use Rattle.std.proofs.lemmas.Bool.Decides.{Decides-and, Decides-not, Decides-like, same_from_decides}
-use Rattle.clause.specs.Meaning.{Shares, Meets, BothImply}
-use Rattle.clause.specs.Groups.{met, least, lowest, is_none, nobody, within}
+use Rattle.clause.specs.Meaning.{Meets, BothImply}
+use Rattle.clause.specs.Groups.{met, lowest, is_none, nobody, within}
 use Rattle.clause.proofs.Least.{least_none, none_least}
 
 pub met_decides : (cs : List ℕ) (g : ℕ) → Decides (met cs g) (Meets cs g)

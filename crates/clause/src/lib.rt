@@ -1,5 +1,7 @@
 //! Lists of clauses. A clause is a set of the sixteen parties, read as "one of these", and a list
 //! is met by the groups that share a party with each of its clauses.
+#![tactic(auto)]
+
 mod reduce;
 
 ghost use Rattle.std.specs.Prelude.{◌≡◌, ◌-◌, Decides, bit_or};

@@ -1,10 +1,9 @@
-use Rattle.std.proofs.Common.{◌≡◌, ℕ, ◌+◌, ◌-◌, ◌<◌, ◌≤◌, cond, ltb, List, length, get_or, take, set, sym, refl, ap, ◌∙◌, subst, inl, inr, arith, length-set, length-take}
+use Rattle.std.proofs.Common.{◌≡◌, ℕ, ◌+◌, ◌<◌, ◌≤◌, cond, ltb, List, length, get_or, take, set, sym, ◌∙◌, subst, inl, inr, arith, length-take}
 use Rattle.std.proofs.lemmas.Bool.{lt-ltb, le-ltb, cond-true, cond-false, cases_lt}
 use Rattle.std.proofs.lemmas.List.{get_or-take, get_or-set_same, get_or-set_other, get_or_past, get_or_default, same_lists}
 use Rattle.clause.specs.Meaning.{Alike}
 use Rattle.clause.specs.Parts.{Part, Over, Least}
 use Rattle.clause.proofs.Reducing.{Chosen, chosen_more, none_shorter, chosen_alike}
-use lib.Bits.{bit_and}
 use Rattle.clause.proofs.Canonical.{canonical, Rises, Antichain}
 use Rattle.formula.specs.Kept.{Unused, Rising, Apart, Sixteen}
 

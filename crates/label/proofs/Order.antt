@@ -1,12 +1,10 @@
 -- The order of labels, group by group.
-use Rattle.std.proofs.Common.{◌≡◌, ℕ, ◌<◌, Bool, true, ◌&&◌, ◌||◌, ◌⊎◌, Decides, inl, inr}
-use Rattle.std.proofs.lemmas.Bool.Decides.{Decides-and, Decides-like, same_from_decides}
-use Rattle.clause.specs.Meaning.{Meets, Implies}
-use Rattle.clause.specs.Groups.{met, within}
-use Rattle.clause.proofs.Tests.{met_decides}
+use Rattle.std.proofs.Common.{ℕ, ◌<◌, inl, inr}
+use Rattle.std.proofs.lemmas.Bool.Decides.{Decides-and, Decides-like}
+use Rattle.clause.specs.Meaning.{Meets}
+use Rattle.clause.specs.Groups.{within}
 use Rattle.formula.proofs.Forming.{means_both, means_either}
-use Rattle.label.specs.Marks.{Covered, CoveredByTwo, sight_touches, hand_touches}
-use Rattle.label.specs.Labels.{Marks, unseeing, handed, flows, covered, join}
+use Rattle.label.specs.Labels.{Marks, unseeing, handed, flows, join}
 use Rattle.label.specs.Order.{FlowsByGroups, FlowsOrder, JoinLeast}
 use Rattle.label.specs.Tests.{covered_within, sight_uncovered, hand_uncovered}
 

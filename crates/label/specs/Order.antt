@@ -1,5 +1,5 @@
 -- The order of labels.
-use Rattle.std.specs.Prelude.{◌≡◌, ℕ, ◌<◌, Bool, true, ◌↔◌, List}
+use Rattle.std.specs.Prelude.{◌≡◌, ℕ, ◌<◌, true, ◌↔◌}
 use Rattle.clause.specs.Meaning.{Meets}
 use Rattle.label.specs.Labels.{Marks, flows, join}
 

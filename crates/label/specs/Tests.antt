@@ -1,8 +1,7 @@
 -- Tests of sight and hand over all groups.
 use Rattle.std.specs.Prelude.{◌≡◌, ℕ, ◌<◌, Bool, true, false, not, ◌&&◌, ◌||◌, ◌⊎◌, ◌↔◌, List, Decides, refl}
-use Rattle.std.proofs.Common.{sym, ap, ◌∙◌, true≢false, inl, inr}
-use Rattle.std.proofs.lemmas.Bool.{cases_Bool, both_ways, or_cases, or_left, or_right, and_parts}
-use Rattle.std.proofs.lemmas.Bool.Decides.{Decides-and, Decides-or, Decides-not, Decides-like, same_from_decides}
+use Rattle.std.proofs.Common.{sym, ap, ◌∙◌, true≢false}
+use Rattle.std.proofs.lemmas.Bool.Decides.{Decides-and, Decides-or, Decides-like, same_from_decides}
 use Rattle.clause.specs.Meaning.{Meets, Means, Implies, BothImply, ImpliesEither}
 use Rattle.clause.specs.Groups.{met, within}
 use Rattle.clause.proofs.Tests.{met_decides, within_decides}

@@ -1,4 +1,6 @@
 //! Marks, and the labels that are made of them.
+#![tactic(auto)]
+
 mod hand;
 mod kind;
 mod label;

@@ -1,5 +1,5 @@
 -- The first of several groups, put together from parts.
-use Rattle.std.proofs.Common.{◌≡◌, ℕ, ◌+◌, ◌-◌, ◌<◌, ◌≤◌, min, Bool, true, not, ◌&&◌, ◌||◌, ◌⊎◌, List, length, get_or, Some, None, Decides, Option, sym, refl, ap, ◌∙◌, subst, inl, inr, arith, below_more}
+use Rattle.std.proofs.Common.{◌≡◌, ℕ, ◌+◌, ◌-◌, ◌<◌, ◌≤◌, min, Bool, true, not, ◌&&◌, ◌||◌, ◌⊎◌, List, length, get_or, Some, None, Decides, Option, sym, refl, ap, ◌∙◌, subst, inl, inr, arith}
 use lib.Bits.{bit_and, and_comm}
 use Rattle.std.proofs.ByRecursion.{All-get_or}
 use Rattle.std.proofs.lemmas.Bool.{cases_order, both_ways, or_cases, or_left, or_right}
@@ -7,7 +7,7 @@ use Rattle.clause.specs.Meaning.{Shares, Meets}
 use Rattle.clause.specs.Parts.{Part}
 use Rattle.clause.proofs.Bitsets.{apart, wider}
 use Rattle.clause.proofs.Covering.{found, beside, grows}
-use Rattle.clause.specs.Groups.{met, least, lowest, earlier}
+use Rattle.clause.specs.Groups.{met, lowest, earlier}
 use Rattle.clause.proofs.Least.{least_at, none_least, least_none, least_found}
 use Rattle.clause.proofs.Tests.{not_true, met_decides}
 use Rattle.std.proofs.lemmas.Bool.Decides.{Decides-and, Decides-not, Decides-like}

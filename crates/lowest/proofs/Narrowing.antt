@@ -1,8 +1,8 @@
 -- Leaving out one party after another, from the highest down.
-use Rattle.std.proofs.Common.{◌≡◌, ℕ, zero, suc, ◌+◌, ◌-◌, ◌*◌, ◌/◌, ◌%◌, ◌^◌, ◌<◌, ◌≤◌, min, ◌⊎◌, sym, refl, ap, ◌∙◌, subst, inl, inr, add-mul, pow-suc, zero-mul, arith}
-use lib.Bits.{bit_and, and_step, and_high, and_comm, and_self, and_le_r, and_le_l}
+use Rattle.std.proofs.Common.{◌≡◌, ℕ, zero, suc, ◌+◌, ◌-◌, ◌*◌, ◌/◌, ◌%◌, ◌^◌, ◌<◌, ◌≤◌, sym, ap, ◌∙◌, inl, inr, add-mul, pow-suc, zero-mul, arith}
+use lib.Bits.{bit_and, and_step, and_high, and_comm, and_self, and_le_l}
 use Rattle.std.proofs.lemmas.Nat.{shr_high, shr-shr, shr_split, pow_pos, pow_below, pow-add, mod_below}
-use Rattle.std.proofs.lemmas.Bool.{cases_eq, cases_order}
+use Rattle.std.proofs.lemmas.Bool.{cases_eq}
 use Rattle.clause.specs.Parts.{Part}
 use Rattle.clause.proofs.Bitsets.{split, part_trans}
 use Rattle.clause.proofs.Covering.{beside}

@@ -1,5 +1,7 @@
 //! The lowest-numbered group that meets two lists of clauses and misses a third, found without going
 //! through the groups: at most 8 · 17 · 16 clause tests where each list has at most 8 clauses.
+#![tactic(auto)]
+
 ghost use Rattle.std.specs.Prelude.{◌≡◌, ◌-◌, ◌^◌, ◌<◌, not, ◌&&◌, bit_and};
 ghost use Rattle.clause.specs.Groups.{met, lowest, earlier as earlierOf};
 ghost use Rattle.lowest.specs.First.{First, Fitting, Missing};

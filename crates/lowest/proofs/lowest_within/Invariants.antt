@@ -1,4 +1,4 @@
-use Rattle.std.proofs.Common.{ℕ, ◌≤◌}
+use Rattle.std.proofs.Common.{◌≤◌}
 use Rattle.clause.specs.Meaning.{Meets}
 use Rattle.lowest.proofs.Narrowing.{Narrowed}
 use Rattle.lowest.proofs.lowest_within.Given as goal

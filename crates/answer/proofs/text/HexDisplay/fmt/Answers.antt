@@ -1,7 +1,6 @@
-use Rattle.std.proofs.Common.{◌≡◌, ℕ, ◌/◌, ◌<◌, List, [], ◌∷◌, ◌++◌, ap, ◌∙◌, subst}
+use Rattle.std.proofs.Common.{◌≡◌, ◌/◌, ◌++◌}
 use lib.Utf8.{encode}
-use Rattle.std.specs.Fmt.{WritesOnOk}
-use Rattle.answer.specs.Text.{hex_digit, hex_text}
+use Rattle.answer.specs.Text.{hex_text}
 use Rattle.answer.proofs.Digits.{digit_encoded}
 use Rattle.answer.proofs.text.HexDisplay.fmt.Goals as goal
 

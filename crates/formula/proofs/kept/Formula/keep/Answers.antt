@@ -1,7 +1,6 @@
 use Rattle.std.proofs.Common.{◌≡◌, ℕ, ◌<◌, true, leb, List, [], ◌∷◌, ◌++◌, length, get_or, Some, None, sym, ap, ◌∙◌, arith, length-set}
 use Rattle.std.proofs.lemmas.Bool.{cond-true, cond-false, and_left, and_right, and_from, lt-leb, le-leb}
 use Rattle.std.proofs.lemmas.List.{take_more, take_more_set}
-use Rattle.formula.specs.Kept.{Unused}
 use Rattle.formula.specs.Keeping.{ordered, kept}
 use Rattle.formula.proofs.Choosing.{still_unused}
 use Rattle.formula.proofs.Keeping.{kept_is_reduced, ordered_rises, ordered_antichain, copied_rising, copied_apart, copied_fits, copied_whole}

@@ -1,4 +1,4 @@
-use Rattle.std.proofs.Common.{◌≡◌, ◌+◌, ◌*◌, ◌≤◌, ◌++◌, map, length, take}
+use Rattle.std.proofs.Common.{◌≡◌, ◌+◌, ◌*◌, ◌≤◌, ◌++◌, map, take}
 use lib.Bits.{bit_or}
 use Rattle.clause.specs.Unions.{unions}
 use Rattle.formula.proofs.Gathering.{gathered}

@@ -1,4 +1,4 @@
-use Rattle.std.proofs.Common.{◌≡◌, ℕ, ◌-◌, ◌≤◌, length, get_or}
+use Rattle.std.proofs.Common.{◌≡◌, ◌-◌, ◌≤◌, length, get_or}
 use Rattle.formula.specs.Kept.{Unused}
 use Rattle.clause.proofs.Reducing.{Chosen}
 use Rattle.formula.proofs.kept.Formula.shrink.Given as goal

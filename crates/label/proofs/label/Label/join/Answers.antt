@@ -1,8 +1,7 @@
 use Rattle.std.proofs.Common.{◌≡◌}
 use Rattle.std.proofs.lemmas.Bool.{and_from, and_left, and_right}
 use Rattle.std.proofs.lemmas.Result.{err_from_is_err_and}
-use Rattle.label.specs.declared.label.Label.{Label}
-use Rattle.label.specs.Labels.{Marks, labelled, join}
+use Rattle.label.specs.Labels.{labelled, join}
 use Rattle.formula.specs.Forms.{fits}
 use Rattle.label.proofs.Order.{join_least}
 use Rattle.label.proofs.label.Label.join.Goals as goal
