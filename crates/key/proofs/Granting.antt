@@ -1,11 +1,11 @@
 -- When each key grants and how it denies.
-use Rattle.std.proofs.Common.{◌≡◌, ℕ, ◌<◌, Bool, true, false, cond, not, ◌&&◌, ◌||◌, ◌⊎◌, ◌↔◌, List, Some, None, Ok, Err, Decides, Option, sym, refl, ap, ◌∙◌, subst, inl, inr, true≢false, arith}
-use Rattle.std.proofs.lemmas.Bool.{both_ways, cases_Bool, cond-true, cond-false}
-use Rattle.std.proofs.lemmas.Bool.Decides.{Decides-and, Decides-or, Decides-not, Decides-like, not_from_Decides}
+use Rattle.std.proofs.Common.{◌≡◌, ℕ, Bool, true, false, cond, not, ◌&&◌, ◌||◌, List, Some, None, Ok, Err, Decides, Option, sym, refl, subst, true≢false, arith}
+use Rattle.std.proofs.lemmas.Bool.{both_ways, cond-true, cond-false}
+use Rattle.std.proofs.lemmas.Bool.Decides.{Decides-and, Decides-or, Decides-not, Decides-like}
 use Rattle.answer.specs.declared.Denial.{Denial}
 use Rattle.answer.specs.declared.Denial.TheVariants.{NotCovered, OutsideMode, AboveHigh, BelowLow, Steered}
-use Rattle.clause.specs.Meaning.{Meets, BothImply}
-use Rattle.clause.specs.Groups.{met, within, least, lowest}
+use Rattle.clause.specs.Meaning.{Meets}
+use Rattle.clause.specs.Groups.{met, within, lowest}
 use Rattle.clause.proofs.Least.{least_none, none_least, least_at}
 use Rattle.clause.proofs.Tests.{met_decides, within_decides, not_true}
 use Rattle.label.specs.declared.kind.Kind.{Kind}
@@ -14,8 +14,8 @@ use Rattle.label.specs.Labels.{Marks, sees, handed, unseeing, flows, covered, re
 use Rattle.label.proofs.Order.{flows_by_groups}
 use Rattle.key.specs.declared.mode.Mode.{Mode}
 use Rattle.key.specs.Requests.{Asked, Limits}
-use Rattle.key.specs.Meanings.{Verdict, Meaning, grant, passing, plain, plain_covers, covers, gains, steers, steers_kind, unless_steered, robust, robust_says, bounded, bounded_says}
-use Rattle.key.specs.Laws.{Sees, HasHand, Everybody, Nobody, Gains, Steers, SteersKind, PlainGrants, Plain-law, Robust-law, Flows, CoveredByBoth, BelowHigh, AboveLow, Bounded-law, KeyLaws, OverRobust, itself, wrapped, elsewhere, ReleasesRobustly, OverRobustLaw}
+use Rattle.key.specs.Meanings.{Verdict, Meaning, grant, passing, plain_covers, covers, gains, steers, steers_kind, unless_steered, robust, bounded}
+use Rattle.key.specs.Laws.{Everybody, SteersKind, PlainGrants, Plain-law, Robust-law, CoveredByBoth, BelowHigh, Bounded-law, KeyLaws, itself, wrapped, elsewhere, ReleasesRobustly, OverRobustLaw}
 
 -- a denial is no grant
 never : (d : Denial) {X : Type 0} → Err d ≡ grant → X

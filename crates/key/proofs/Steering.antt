@@ -1,5 +1,5 @@
 -- The lowest group that steers a release, found hand by hand.
-use Rattle.std.proofs.Common.{◌≡◌, ℕ, Bool, true, false, not, ◌&&◌, ◌||◌, List, Option, sym, refl, ap, ◌∙◌}
+use Rattle.std.proofs.Common.{◌≡◌, ℕ, Bool, true, false, not, ◌&&◌, ◌||◌, List, sym, refl, ap}
 use Rattle.clause.specs.Groups.{met, lowest, earlier}
 use Rattle.lowest.proofs.Choosing.{earlier_is}
 

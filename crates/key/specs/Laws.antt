@@ -1,5 +1,5 @@
 -- When each key grants and how it denies, in terms of who sees and who has a hand.
-use Rattle.std.specs.Prelude.{◌≡◌, ℕ, ◌<◌, Bool, true, false, ◌⊎◌, ◌↔◌, List, Ok, Err}
+use Rattle.std.specs.Prelude.{◌≡◌, ℕ, ◌<◌, true, false, ◌⊎◌, ◌↔◌, List, Err}
 use Rattle.answer.specs.declared.Denial.{Denial}
 use Rattle.answer.specs.declared.Denial.TheVariants.{NotCovered, OutsideMode, AboveHigh, BelowLow, Steered}
 use Rattle.clause.specs.Meaning.{Meets}

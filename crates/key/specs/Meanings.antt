@@ -5,7 +5,7 @@ use Rattle.answer.specs.declared.Denial.TheVariants.{NotCovered, OutsideMode, Ab
 use Rattle.clause.specs.Groups.{met, within, lowest}
 use Rattle.label.specs.declared.kind.Kind.{Kind}
 use Rattle.label.specs.declared.kind.Kind.TheVariants.{Release, Endorse}
-use Rattle.label.specs.Labels.{Marks, sees, handed, flows, covered, relabelled}
+use Rattle.label.specs.Labels.{sees, handed, flows, covered, relabelled}
 use Rattle.key.specs.declared.mode.Mode.{Mode}
 use Rattle.key.specs.declared.mode.Mode.TheVariants.{Releases, Endorsements, Both}
 use Rattle.key.specs.Requests.{Asked, Limits}

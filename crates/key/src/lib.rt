@@ -1,4 +1,6 @@
 //! Keys: what decides whether a release or an endorsement may happen.
+#![tactic(auto)]
+
 mod bounded;
 mod key;
 mod laws;

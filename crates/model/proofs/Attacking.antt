@@ -1,6 +1,6 @@
 -- Attackers as formulas and as groups.
-use Rattle.std.proofs.Common.{◌≡◌, ℕ, ◌+◌, ◌-◌, ◌%◌, ◌<◌, Bool, true, ◌⊎◌, ◌↔◌, List, [], ◌∷◌, sym, refl, ap, ◌∙◌, subst, inl, inr, arith}
-use Rattle.clause.specs.Meaning.{Meets, Implies, BothImply, Means}
+use Rattle.std.proofs.Common.{ℕ, ◌-◌, ◌%◌, ◌<◌, ◌⊎◌, ◌↔◌, List, [], ◌∷◌, sym, ◌∙◌, inl, inr, arith}
+use Rattle.clause.specs.Meaning.{Meets, Implies, Means}
 use Rattle.clause.specs.Unions.{unions}
 use Rattle.clause.proofs.Bitsets.{apart}
 use Rattle.clause.proofs.Covering.{grows, beside}
@@ -9,12 +9,11 @@ use Rattle.clause.proofs.Joining.{means_unions}
 use Rattle.clause.proofs.Tests.{decided, stable}
 use Rattle.label.specs.declared.kind.Kind.{Kind}
 use Rattle.label.specs.declared.kind.Kind.TheVariants.{Release, Endorse}
-use Rattle.key.specs.declared.mode.Mode.{Mode}
 use Rattle.key.specs.Requests.{Asked}
-use Rattle.key.specs.Meanings.{grant, plain, robust, covers}
-use Rattle.key.specs.Laws.{Nobody, HasHand, Steers, SteersKind, PlainGrants}
+use Rattle.key.specs.Meanings.{plain}
+use Rattle.key.specs.Laws.{Nobody, SteersKind, PlainGrants}
 use Rattle.key.proofs.Granting.{key_laws}
-use Rattle.model.specs.Attackers.{AttackKind, Attack, AttackersAreGroups, ChecksKind, ChecksExact, WeakerKind, Weakened, weakened_kind, WeakenedExists}
+use Rattle.model.specs.Attackers.{AttackKind, AttackersAreGroups, ChecksKind, ChecksExact, WeakerKind, Weakened, weakened_kind, WeakenedExists}
 use Rattle.model.proofs.Singles.{singles, singles_hold, singles_meet, singles_fit}
 
 -- a group that meets the first and not the second

@@ -1,5 +1,5 @@
 -- The lattice of labels.
-use Rattle.std.proofs.Common.{◌≡◌, ◌⊎◌, inl, inr}
+use Rattle.std.proofs.Common.{inl, inr}
 use Rattle.formula.proofs.Forming.{means_both, means_either}
 use Rattle.label.proofs.Order.{flows_by_groups, flows_order, join_least}
 use Rattle.model.specs.Lattice.{meet, ProductOrder, Antisymmetric, MeetGreatest, Lattice}

@@ -1,16 +1,13 @@
 -- Keys and privileges.
-use Rattle.std.proofs.Common.{◌≡◌, ℕ, ◌<◌, Bool, true, false, ◌&&◌, ◌⊎◌, ◌↔◌, List, Ok, Err, sym, refl, ap, ◌∙◌, subst, inl, inr}
-use Rattle.std.proofs.lemmas.Bool.{and_parts, and_from}
-use Rattle.clause.specs.Meaning.{Meets}
+use Rattle.std.proofs.Common.{◌≡◌, ℕ, true, ◌↔◌, List, Ok, Err, sym, refl, ap, ◌∙◌}
 use Rattle.formula.proofs.Forming.{means_both, means_either}
 use Rattle.label.specs.declared.kind.Kind.{Kind}
 use Rattle.label.specs.declared.kind.Kind.TheVariants.{Release, Endorse}
 use Rattle.label.specs.Labels.{Marks, flows, join, relabelled}
 use Rattle.label.proofs.Order.{flows_by_groups, flows_order, join_least}
-use Rattle.key.specs.declared.mode.Mode.{Mode}
-use Rattle.key.specs.Requests.{Asked, Limits}
-use Rattle.key.specs.Meanings.{Verdict, Meaning, grant, passing, plain, robust, robust_says, bounded, bounded_says, covers}
-use Rattle.key.specs.Laws.{Sees, HasHand, Everybody, PlainGrants, Flows, CoveredByBoth, BelowHigh, AboveLow}
+use Rattle.key.specs.Requests.{Asked}
+use Rattle.key.specs.Meanings.{Verdict, Meaning, grant, passing, robust_says, bounded_says}
+use Rattle.key.specs.Laws.{PlainGrants, Flows, CoveredByBoth}
 use Rattle.key.proofs.Granting.{key_laws, passing_grants}
 use Rattle.model.specs.Privileges.{FlowsWith, new_label, PlainIsFlow, BoundedByJoins, Wrap, robustly, boundedly, wrap, Stacking, RobustTwice}
 

@@ -1,7 +1,7 @@
 -- The formula of a group: one clause to a member.
-use Rattle.std.proofs.Common.{◌≡◌, ℕ, zero, suc, ◌+◌, ◌-◌, ◌*◌, ◌/◌, ◌%◌, ◌^◌, ◌<◌, ◌≤◌, min, List, [], ◌∷◌, map, sym, refl, ap, ◌∙◌, pow-suc, arith}
+use Rattle.std.proofs.Common.{◌≡◌, ℕ, zero, suc, ◌*◌, ◌/◌, ◌%◌, ◌^◌, ◌<◌, ◌≤◌, List, [], ◌∷◌, map, sym, ap, ◌∙◌, pow-suc, arith}
 use lib.Bits.{bit_and, and_step, and_zero_l}
-use Rattle.clause.specs.Meaning.{Shares, Meets}
+use Rattle.clause.specs.Meaning.{Meets}
 use Rattle.std.specs.List.{AllByRecursion as All}
 
 -- party 0, when it is there

@@ -7,7 +7,7 @@ use Rattle.label.specs.declared.kind.Kind.{Kind}
 use Rattle.label.specs.declared.kind.Kind.TheVariants.{Release, Endorse}
 use Rattle.key.specs.declared.mode.Mode.{Mode}
 use Rattle.key.specs.Requests.{Asked}
-use Rattle.key.specs.Meanings.{Meaning, grant, plain, robust, covers}
+use Rattle.key.specs.Meanings.{grant, plain, robust, covers}
 use Rattle.key.specs.Laws.{HasHand, Steers}
 
 -- an attacker is any formula over the sixteen parties; he sees, or has a hand, where his formula implies the label's.

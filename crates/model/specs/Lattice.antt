@@ -2,7 +2,7 @@
 use Rattle.std.specs.Prelude.{◌≡◌, true, ◌↔◌}
 use Rattle.clause.specs.Meaning.{Implies, Alike}
 use Rattle.formula.specs.Forms.{both, either}
-use Rattle.label.specs.Labels.{Marks, flows, join}
+use Rattle.label.specs.Labels.{Marks, flows}
 use Rattle.label.specs.Order.{FlowsOrder, JoinLeast}
 
 -- the meet of two labels: the "or" of the sights, the "and" of the hands

@@ -1,5 +1,7 @@
 //! The label model, stated of the definitions that the monitor's contracts cite. There is nothing to
 //! run here: the functions bear theorems.
+#![tactic(auto)]
+
 ghost use Rattle.model.specs.Lattice.{Lattice};
 ghost use Rattle.model.specs.Privileges.{PlainIsFlow, BoundedByJoins, Stacking, RobustTwice};
 ghost use Rattle.model.specs.Attackers.{AttackersAreGroups, ChecksExact, Weakened, WeakenedExists};

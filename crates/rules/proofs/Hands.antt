@@ -5,7 +5,7 @@ use Rattle.answer.specs.declared.Refusal.TheVariants.{Denied}
 use Rattle.answer.specs.Told.{Told, granted, refused}
 use Rattle.answer.proofs.Telling.{refuses}
 use Rattle.clause.specs.Groups.{met}
-use Rattle.clause.proofs.Tests.{met_decides, not-true as not_yes}
+use Rattle.clause.proofs.Tests.{met_decides, not_true as not_yes}
 use Rattle.formula.specs.Party.{alone}
 use Rattle.formula.specs.Forms.{either}
 use Rattle.label.specs.declared.kind.Kind.{Kind}

@@ -1,14 +1,14 @@
 -- Gathering clauses, and joining what was parted.
-use Rattle.std.proofs.Common.{◌≡◌, ℕ, zero, suc, ◌+◌, ◌<◌, ◌≤◌, Bool, true, false, cond, eqb, ltb, leb, ◌⊎◌, List, [], ◌∷◌, ◌++◌, length, get_or, take, set, Some, None, Option, sym, refl, ap, ◌∙◌, subst, inl, inr, arith, length-append, length-set, length-take, length-take-le, take_all, Bor}
+use Rattle.std.proofs.Common.{◌≡◌, ℕ, zero, suc, ◌+◌, ◌<◌, ◌≤◌, Bool, true, false, eqb, ltb, leb, List, [], ◌∷◌, ◌++◌, length, take, set, Some, None, Option, sym, refl, ap, ◌∙◌, subst, inl, inr, arith, length-append, length-set, length-take-le, take_all, Bor}
 use lib.Seq.{take-append-le}
 use Rattle.std.proofs.lemmas.List.{append_assoc, take_more_set}
-use Rattle.std.proofs.lemmas.Bool.{eq-eqb, ne_eqb, eqb-true, eqb-false, cond-true, cond-false, lt-ltb, le-ltb, ltb-true, ltb-false, lt-leb, cases_lt}
+use Rattle.std.proofs.lemmas.Bool.{eqb-true, eqb-false, cond-true, cond-false, lt-ltb, le-ltb, ltb-true, ltb-false, lt-leb, cases_lt}
 use Rattle.answer.specs.Told.{refused}
 use Rattle.clause.specs.Reduced.{reduced}
 use Rattle.formula.specs.Forms.{fitting, reduces}
 use Rattle.words.specs.Hex.{hex_four}
 use Rattle.words.specs.Parted.{parted, before, joined, Without, Cut, AllWithout, PartsJoin}
-use Rattle.words.specs.Formulas.{hex_all, cons_some, or_none}
+use Rattle.words.specs.Formulas.{hex_all, cons_some}
 use Rattle.words.proofs.Parts.{cut_parts, parts_of}
 
 abbrev pub after : List ℕ → Option (List ℕ) → Option (List ℕ)

@@ -1,5 +1,5 @@
 -- Decimal numbers, by their bytes.
-use Rattle.std.specs.Prelude.{ℕ, ◌+◌, ◌-◌, ◌*◌, Bool, true, false, cond, List, [], ◌∷◌, length, Some, None, Option, nat_le}
+use Rattle.std.specs.Prelude.{ℕ, ◌+◌, ◌-◌, ◌*◌, cond, List, [], ◌∷◌, length, Some, None, Option, nat_le}
 
 abbrev pub digit_of : ℕ → Option ℕ
 digit_of b = cond (nat_le 48 b) (cond (nat_le b 57) (Some (b - 48)) None) None

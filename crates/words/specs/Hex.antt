@@ -1,5 +1,5 @@
 -- Hexadecimal numbers, by their bytes.
-use Rattle.std.specs.Prelude.{ℕ, ◌+◌, ◌-◌, ◌*◌, Bool, true, false, cond, List, [], ◌∷◌, Some, None, Option, nat_le}
+use Rattle.std.specs.Prelude.{ℕ, ◌+◌, ◌-◌, ◌*◌, cond, List, [], ◌∷◌, Some, None, Option, nat_le}
 
 -- the value of a lowercase hexadecimal digit, by its byte
 abbrev pub hex_digit : ℕ → Option ℕ

@@ -1,5 +1,5 @@
 -- Rows of bytes, parted at a separator.
-use Rattle.std.specs.Prelude.{◌≡◌, ℕ, ◌<◌, Bool, true, false, cond, List, [], ◌∷◌, ◌++◌, length, Some, None, Option, ◌==◌, ◌≢◌, slice_index}
+use Rattle.std.specs.Prelude.{◌≡◌, ℕ, ◌<◌, cond, List, [], ◌∷◌, ◌++◌, length, Some, None, Option, ◌==◌, ◌≢◌, slice_index}
 use Rattle.std.specs.Borrow.{Bor}
 
 abbrev pub before : ℕ → List (List ℕ) → List (List ℕ)

@@ -1,4 +1,6 @@
 //! The words of a call line. A word is a part of the line: nothing is copied.
+#![tactic(auto)]
+
 mod clauses;
 mod decimal;
 mod hex;

@@ -1,4 +1,4 @@
-use Rattle.std.proofs.Common.{◌≡◌, ap, ◌∙◌}
+use Rattle.std.proofs.Common.{ap, ◌∙◌}
 use Rattle.clause.specs.Groups.{earlier as earlierOf}
 use Rattle.formula.specs.Of.{clauses_of}
 use Rattle.key.proofs.Steering.{by_hands}

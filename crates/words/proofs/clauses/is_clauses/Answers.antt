@@ -1,4 +1,4 @@
-use Rattle.std.proofs.Common.{◌≡◌, ℕ, List, Option, sym, refl, ap, ◌∙◌, subst, arith, Bor, rules}
+use Rattle.std.proofs.Common.{ℕ, List, Option, sym, ap, ◌∙◌, subst, Bor}
 use Rattle.words.proofs.Parts.{hex_none, hex_more, cut_shorter, parts_of}
 use Rattle.words.specs.Parted.{Cut}
 use Rattle.words.specs.Formulas.{hex_all, is_some}

@@ -1,10 +1,8 @@
-use Rattle.std.proofs.Common.{◌≡◌, ℕ, List, [], ◌∷◌, ◌++◌, Ok, Err, Option, sym, refl, ap, ◌∙◌, subst, arith, Bor, rules}
+use Rattle.std.proofs.Common.{ℕ, List, [], ◌∷◌, ◌++◌, Option, sym, ap, ◌∙◌, subst, Bor}
 use Rattle.std.proofs.lemmas.List.{append-nil}
 use Rattle.words.specs.Parted.{Cut}
 use Rattle.words.specs.Formulas.{hex_all, or_none}
-use Rattle.answer.specs.Told.{Told, granted, says}
-use Rattle.clause.specs.Reduced.{reduced}
-use Rattle.formula.specs.Of.{clauses_of}
+use Rattle.answer.specs.Told.{granted}
 use Rattle.formula.specs.Forms.{reduces}
 use Rattle.words.proofs.Parts.{cut_shorter, parts_of}
 use Rattle.words.proofs.Gather.{after, gather_bad, gather_more}

@@ -19,20 +19,20 @@ bounds-bytes-place c =
     let inv = c.loop-count.invariant.2 in
     omega arith
 
-pub overflow-cast-bytes-in-loop-count : goal.overflow-cast-bytes-in-loop-count
-overflow-cast-bytes-in-loop-count c =
+pub overflow_cast-bytes-in-loop-count : goal.overflow_cast-bytes-in-loop-count
+overflow_cast-bytes-in-loop-count c =
     let m = c.loop-count.count - 8 in
     let e : c.loop-count.count ≡ 8 + m = omega arith in
     omega (arith, shr_below c.loop-count.held 8 m (subst (λ (k : ℕ). c.loop-count.held < 2 ^ k) e c.loop-count.invariant.0))
 
-pub nonzero-rem-held : goal.nonzero-rem-held
-nonzero-rem-held c =
+pub nonzero_rem-held : goal.nonzero_rem-held
+nonzero_rem-held c =
     let m = c.loop-count.count - 8 in
     let small = c.loop-count.invariant.1 in
     omega (arith, one_shl m 32 (omega arith), pow_pos m)
 
 pub invariant_of-result : goal.invariant_of-result
-invariant_of-result c = (omega arith, (c.loop-count.invariant.0, tt))
+invariant_of-result c = record { few = omega arith; low = c.loop-count.invariant.0 }
 
 pub loop-count-preserved : goal.loop-count-preserved
 loop-count-preserved c =

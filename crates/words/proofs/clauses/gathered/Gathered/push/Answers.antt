@@ -1,4 +1,4 @@
-use Rattle.std.proofs.Common.{arith, rules}
+use Rattle.std.proofs.Common.{arith}
 use Rattle.words.proofs.Gather.{push_then, push_else}
 use Rattle.words.proofs.clauses.gathered.Gathered.push.Goals as goal
 
