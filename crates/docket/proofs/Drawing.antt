@@ -1,5 +1,5 @@
 -- Bits written behind others.
-use Rattle.std.proofs.Common.{◌≡◌, ℕ, ◌+◌, ◌-◌, ◌*◌, ◌/◌, ◌%◌, ◌^◌, ◌<◌, ◌≤◌, List, [], ◌∷◌, ◌++◌, length, take, set, sym, ap, ◌∙◌, subst, mul-le-mul_right, add-mul, arith, length-append}
+use Rattle.std.proofs.Common.{◌≡◌, ℕ, ◌+◌, ◌*◌, ◌/◌, ◌%◌, ◌^◌, ◌<◌, ◌≤◌, List, [], ◌∷◌, ◌++◌, length, take, set, sym, ap, ◌∙◌, subst, mul-le-mul_right, add-mul, arith, length-append}
 use lib.Bits.{bit_or}
 use Rattle.std.proofs.lemmas.Nat.{shl_whole, or_shifted, shr_split, mod_below, pow_pos, pow-add}
 use Rattle.std.proofs.lemmas.List.{append_assoc, append-nil, take_more_set, take_all}

@@ -1,5 +1,5 @@
 -- Numbers and their bits.
-use Rattle.std.proofs.Common.{◌≡◌, ℕ, zero, suc, ◌+◌, ◌-◌, ◌*◌, ◌/◌, ◌%◌, ◌^◌, ◌<◌, List, [], ◌∷◌, ◌++◌, length, take, drop, sym, refl, ap, ◌∙◌, subst, add-zero, mul-le-mul_right, mod-eq_of_lt, mul_assoc, mul_comm, add-mul, zero-add, arith, pow-add}
+use Rattle.std.proofs.Common.{◌≡◌, ℕ, zero, suc, ◌+◌, ◌*◌, ◌/◌, ◌%◌, ◌^◌, ◌<◌, List, [], ◌∷◌, ◌++◌, length, take, drop, sym, refl, ap, ◌∙◌, subst, add-zero, mul-le-mul_right, mod-eq_of_lt, mul_assoc, mul_comm, add-mul, zero-add, arith, pow-add}
 use Rattle.std.proofs.lemmas.Nat.{mod-pow-add}
 use Rattle.std.proofs.lemmas.List.{append_assoc, append-nil}
 use Rattle.docket.specs.Bits.{bits, unpack, number, number_from}

@@ -1,4 +1,6 @@
 //! The docket: a log of releases and endorsements, packed bit by bit.
+#![tactic(auto)]
+
 mod entry;
 mod field;
 mod part;

@@ -1,8 +1,8 @@
 -- What a group's members enter moves no record without its hand, and no robust release that lets it in.
-use Rattle.std.proofs.Common.{◌≡◌, ℕ, zero, suc, ◌<◌, Bool, true, false, not, ◌&&◌, ◌||◌, ltb, ◌⊎◌, List, [], ◌∷◌, get_or, set, Ok, Err, sym, refl, ap, ◌∙◌, subst, inl, inr, true≢false}
+use Rattle.std.proofs.Common.{◌≡◌, ℕ, zero, suc, ◌<◌, Bool, true, false, not, ◌&&◌, List, [], ◌∷◌, get_or, set, Ok, Err, sym, refl, ap, ◌∙◌, subst, inl, true≢false}
 use Rattle.std.proofs.lemmas.Bool.{both_ways, and_parts, not-true}
 use Rattle.answer.specs.declared.Refusal.TheVariants.{Denied}
-use Rattle.answer.specs.Told.{Told, granted, refused}
+use Rattle.answer.specs.Told.{granted}
 use Rattle.answer.proofs.Telling.{refuses}
 use Rattle.clause.specs.Groups.{met}
 use Rattle.clause.proofs.Tests.{met_decides, not_true as not_yes}
@@ -10,16 +10,16 @@ use Rattle.formula.specs.Party.{alone}
 use Rattle.formula.specs.Forms.{either}
 use Rattle.label.specs.declared.kind.Kind.{Kind}
 use Rattle.label.specs.declared.kind.Kind.TheVariants.{Release, Endorse}
-use Rattle.label.specs.Marks.{Group, hand_touches}
+use Rattle.label.specs.Marks.{hand_touches}
 use Rattle.label.specs.Labels.{Marks, sees, handed, relabelled}
 use Rattle.key.specs.Meanings.{Meaning, Verdict, grant}
-use Rattle.key.specs.Laws.{OverRobust, ReleasesRobustly}
+use Rattle.key.specs.Laws.{ReleasesRobustly}
 use Rattle.key.proofs.Granting.{over_robust_law}
 use Rattle.rules.specs.State.{State, Place, vacant, holds, record_at, task_at, with_record, blank}
-use Rattle.rules.specs.Step.{Ruled, asks, on_held, is_task, is_record, by_key, done, request_for, changing}
-use Rattle.rules.specs.Runs.{Call, Enter, Open, Close, Take, Put, Drop, Show, Change, Twin, same, figures, left, right, lefts, rights, run, after, answer, is_granted, label_of, figure_of, label_at}
-use Rattle.rules.specs.Tracking.{Touched, Alike, empty, filled, Agree, Settled, Touching, AllSettled, MarkTracks}
-use Rattle.rules.specs.Promise.{EnteredBy, lets_in, takes_off, NoneOf, Unmoved, ShowsOne, Unsteered, Influence}
+use Rattle.rules.specs.Step.{Ruled, asks, on_held, is_task, is_record, by_key, done, request_for}
+use Rattle.rules.specs.Runs.{Call, Enter, Open, Close, Take, Put, Drop, Show, Change, Twin, lefts, rights, run, after, answer, is_granted, label_of, figure_of, label_at}
+use Rattle.rules.specs.Tracking.{Touched, Alike, empty, filled, Agree, Settled, Touching, MarkTracks}
+use Rattle.rules.specs.Promise.{EnteredBy, lets_in, takes_off, NoneOf, ShowsOne, Influence}
 use Rattle.rules.proofs.Embedding.{embeds, lefts_embed, rights_embed, all_settled}
 use Rattle.rules.proofs.Onlookers.{hand_carried, met_grows}
 

@@ -1,15 +1,15 @@
 -- Two runs that agree on everything that does not touch an onlooker, and what the calls keep of that.
-use Rattle.std.proofs.Common.{◌≡◌, ℕ, zero, suc, Bool, true, false, cond, not, ◌&&◌, ◌||◌, ltb, leb, ◌⊎◌, List, [], ◌∷◌, get_or, set, replicate, Ok, Err, sym, refl, ap, ◌∙◌, subst, inl, inr, true≢false}
+use Rattle.std.proofs.Common.{◌≡◌, ℕ, zero, suc, Bool, true, false, ◌&&◌, List, [], ◌∷◌, get_or, set, replicate, Ok, Err, sym, refl, ◌∙◌, subst, inl, inr, true≢false}
 use Rattle.std.proofs.lemmas.Bool.{both_ways, cases_Bool, or_parts}
-use Rattle.answer.specs.Told.{Told, granted, refused}
+use Rattle.answer.specs.Told.{Told, refused}
 use Rattle.formula.specs.Party.{alone}
 use Rattle.label.specs.declared.kind.Kind.{Kind}
 use Rattle.label.specs.Labels.{Marks, sees, handed, flows, join, joinable, relabelled}
 use Rattle.key.specs.Meanings.{Meaning, Verdict}
-use Rattle.rules.specs.State.{State, Place, vacant, holds, record_at, task_at, with_record, with_task, blank, is_figure}
+use Rattle.rules.specs.State.{State, Place, vacant, holds, with_record, with_task, blank, is_figure}
 use Rattle.rules.specs.Step.{Ruled, refuse, done, asks, on_vacant, on_held, on_both, is_record, is_task, is_party, is_manner, worked, opener, entering, opening, closing, taking, putting, dropping, showing, request_for, by_key, changing}
 use Rattle.rules.specs.Runs.{Call, Enter, Open, Close, Take, Put, Drop, Show, Change, Twin, same, figures, left, right, lefts, rights, run, after, answer, is_granted, label_of, figure_of, label_at, figure_at}
-use Rattle.rules.specs.Tracking.{Touched, Lawful, Alike, empty, filled, Agree, Answered, equal, shown, Settled, Touching, AllSettled, Tracks, Tracking}
+use Rattle.rules.specs.Tracking.{Touched, Lawful, Alike, empty, filled, Agree, Answered, equal, shown, Settled, Touching, AllSettled, Tracking}
 
 pub data LowList (touched : Touched) : List Place → List Place → Type 0 where
   nil : LowList touched [] []

@@ -1,13 +1,12 @@
 -- The onlookers of the two marks, and what a larger group sees.
-use Rattle.std.proofs.Common.{◌≡◌, ℕ, ◌<◌, Bool, true, false, List, refl, arith}
-use lib.Bits.{bit_and, and_le_r}
+use Rattle.std.proofs.Common.{◌≡◌, ℕ, ◌<◌, true, List, refl, arith}
+use lib.Bits.{and_le_r}
 use Rattle.clause.specs.Groups.{met}
 use Rattle.clause.specs.Parts.{Part}
 use Rattle.clause.proofs.Covering.{grows}
 use Rattle.clause.proofs.Tests.{met_decides}
 use Rattle.formula.specs.Forms.{both, either}
 use Rattle.label.specs.Marks.{sight_touches, hand_touches}
-use Rattle.label.specs.Labels.{Marks}
 use Rattle.label.proofs.Order.{flows_by_groups}
 use Rattle.label.specs.Tests.{sight_uncovered, hand_uncovered}
 use Rattle.rules.specs.Tracking.{Carried}

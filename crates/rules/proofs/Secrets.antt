@@ -1,16 +1,16 @@
 -- What is closed to a group stays closed.
-use Rattle.std.proofs.Common.{◌≡◌, ℕ, ◌<◌, Bool, true, false, not, ◌&&◌, ◌⊎◌, List, [], ◌∷◌, sym, refl, ap, ◌∙◌, subst, inl, inr, true≢false}
+use Rattle.std.proofs.Common.{◌≡◌, ℕ, ◌<◌, Bool, true, false, not, ◌&&◌, List, [], ◌∷◌, sym, ap, subst, inl, inr, true≢false}
 use lib.Bits.{bit_and}
 use Rattle.std.proofs.lemmas.Bool.{cases_eq, both_ways}
 use Rattle.answer.specs.Told.{Told, granted}
 use Rattle.clause.specs.Groups.{met}
 use Rattle.formula.specs.Forms.{both}
 use Rattle.label.specs.declared.kind.Kind.TheVariants.{Release, Endorse}
-use Rattle.label.specs.Marks.{Group, sight_touches}
+use Rattle.label.specs.Marks.{sight_touches}
 use Rattle.label.specs.Labels.{Marks, sees}
 use Rattle.rules.specs.State.{State, blank}
-use Rattle.rules.specs.Runs.{Call, Enter, Open, Close, Take, Put, Drop, Show, Change, Twin, same, figures, left, right, lefts, rights, run, after, answer, is_granted, label_at}
-use Rattle.rules.specs.Tracking.{Touched, Settled, Touching, AllSettled, Answered, equal, shown, MarkTracks}
+use Rattle.rules.specs.Runs.{Call, Enter, Open, Close, Take, Put, Drop, Show, Change, Twin, left, right, lefts, rights, run, answer, is_granted, label_at}
+use Rattle.rules.specs.Tracking.{Touched, Settled, Touching, Answered, equal, shown, MarkTracks}
 use Rattle.rules.specs.Promise.{ClosedTo, lets_in, NoneOf, Matches, equal as equally, apart, Secrecy}
 use Rattle.rules.proofs.Embedding.{embed, embeds, left_embed, right_embed, lefts_embed, rights_embed, all_settled}
 use Rattle.rules.proofs.Onlookers.{sight_carried, met_grows}

@@ -1,7 +1,6 @@
 -- What every call does and does not do.
-use Rattle.std.proofs.Common.{◌≡◌, ℕ, zero, suc, Bool, true, false, ◌&&◌, ◌⊎◌, List, [], ◌∷◌, get_or, set, Ok, Err, sym, refl, ap, ◌∙◌, subst, inl, inr, true≢false}
+use Rattle.std.proofs.Common.{◌≡◌, ℕ, zero, suc, Bool, true, false, ◌&&◌, ◌⊎◌, List, [], ◌∷◌, get_or, set, Ok, Err, sym, refl, subst, inl, inr, true≢false}
 use Rattle.std.proofs.lemmas.List.{get_or-set_other}
-use Rattle.std.proofs.lemmas.Bool.{cases_eq, both_ways}
 use Rattle.answer.specs.declared.Refusal.TheVariants.{Denied}
 use Rattle.answer.specs.declared.Answer.TheVariants.{Refused}
 use Rattle.answer.specs.Told.{Told, granted, refused, told}
@@ -11,10 +10,10 @@ use Rattle.label.specs.declared.kind.Kind.{Kind}
 use Rattle.label.specs.Labels.{Marks, sees, handed, flows, join, joinable, relabelled}
 use Rattle.key.specs.Meanings.{Meaning, Verdict}
 use Rattle.rules.specs.State.{State, Place, vacant, holds, record_at, task_at, with_record, with_task, is_figure}
-use Rattle.rules.specs.Step.{Ruled, refuse, done, asks, on_vacant, on_held, on_both, is_record, is_task, is_party, is_manner, worked, opener, entering, opening, closing, taking, putting, dropping, showing, request_for, by_key, changing}
+use Rattle.rules.specs.Step.{Ruled, done, asks, on_vacant, on_held, on_both, is_record, is_task, is_party, is_manner, worked, opener, entering, opening, closing, taking, putting, dropping, showing, request_for, by_key, changing}
 use Rattle.rules.specs.Runs.{Call, Enter, Open, Close, Take, Put, Drop, Show, Change, step, after, answer, is_granted}
 use Rattle.rules.specs.Tracking.{Alike, empty, filled, Agree, Answered, equal, shown}
-use Rattle.rules.specs.Laws.{OnlyAt, Same, AltersOne, is_held, NoneGoes, NoneComes, LabelsBy, StepLaws}
+use Rattle.rules.specs.Laws.{AltersOne, is_held, NoneGoes, NoneComes, LabelsBy, StepLaws}
 
 -- what holds of a refused call, and of what a call goes on to, holds of the call
 module _ (t : State) (P : Ruled → Type 0) (no' : (x : Told) → is_granted x ≡ false → P (record { state = t; answer = x })) where

@@ -1,6 +1,5 @@
 -- What the calls do, in the subject's words.
-use Rattle.std.specs.Prelude.{◌≡◌, ℕ, Bool, true, false, ◌⊎◌, List, [], ◌∷◌, ◌≢◌}
-use Rattle.answer.specs.Told.{Told, granted}
+use Rattle.std.specs.Prelude.{◌≡◌, ℕ, Bool, true, false, ◌⊎◌, ◌≢◌}
 use Rattle.rules.specs.State.{State, Place, vacant, holds, record_at, task_at}
 use Rattle.rules.specs.Runs.{Call, Enter, Open, Close, Take, Put, Drop, Show, Change, after, answer, is_granted}
 use Rattle.rules.specs.Tracking.{Agree, Answered}

@@ -1,5 +1,5 @@
 -- Calls, and runs of them.
-use Rattle.std.specs.Prelude.{◌≡◌, ℕ, Bool, true, false, List, [], ◌∷◌, map}
+use Rattle.std.specs.Prelude.{◌≡◌, ℕ, Bool, true, false, List, [], ◌∷◌}
 use Rattle.answer.specs.Told.{Told, granted, refused}
 use Rattle.label.specs.declared.kind.Kind.{Kind}
 use Rattle.label.specs.Labels.{Marks}

@@ -1,5 +1,7 @@
 //! What the calls do, on plain records and tasks, and what holds of every run of them. There is nothing
 //! to run here: the functions bear theorems, and the monitor's calls are proved to follow the rules.
+#![tactic(auto)]
+
 ghost use Rattle.rules.specs.Laws.{StepLaws};
 ghost use Rattle.rules.specs.Promise.{Promise};
 ghost use Rattle.rules.specs.Tracking.{MarkTracks};

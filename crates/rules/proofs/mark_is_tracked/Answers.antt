@@ -1,4 +1,4 @@
-use Rattle.std.proofs.Common.{◌≡◌, ℕ, Bool, List, ap, ◌∙◌}
+use Rattle.std.proofs.Common.{ℕ, List, ap, ◌∙◌}
 use Rattle.rules.proofs.Low.{tracking}
 use Rattle.rules.proofs.mark_is_tracked.Goals as goal
 
