@@ -1,6 +1,6 @@
 -- The worked cases, one row each.
 use Rattle.std.specs.Prelude.{◌≡◌, ℕ, Bool, true, false, List, [], ◌∷◌, Ok, Err}
-use Rattle.std.specs.List.{AllByRecursion as All}
+use Rattle.std.specs.List.{AllByRecursion}
 use Rattle.answer.specs.declared.Denial.TheVariants.{NotCovered, OutsideMode, BelowLow, Steered}
 use Rattle.answer.specs.Told.{Told, granted, refused}
 use Rattle.clause.specs.Groups.{met, within}
@@ -85,4 +85,4 @@ rows =
     ∷ []
 
 abbrev pub Worked : Type 0
-Worked = All Holds rows
+Worked = AllByRecursion Holds rows

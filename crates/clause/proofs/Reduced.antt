@@ -1,7 +1,7 @@
 -- A reduced list is rising, none of it contains another, and it means the same. Assumes nothing.
 use Rattle.std.proofs.Common.{◌≡◌, ℕ, zero, suc, ◌*◌, ◌^◌, ◌<◌, Bool, true, false, cond, not, eqb, ltb, ◌⊎◌, List, [], ◌∷◌, length, get_or, filter, sym, refl, ap, ◌∙◌, subst, inl, inr, true≢false, pow-suc, arith}
 use lib.Bits.{bit_and, and_le_l, and_le_r}
-use Rattle.std.specs.List.{AllByRecursion as All}
+use Rattle.std.specs.List.{AllByRecursion}
 use Rattle.std.proofs.ByRecursion.{All-weaker, all_kept_by, kept_by_passes, All-get_or}
 use Rattle.std.proofs.lemmas.Bool.{eqb-true, eqb-false, ltb-true, ltb-false, and_parts, and_cases, or_cases, or_parts, cases_Bool, both_ways}
 use Rattle.clause.specs.Meaning.{Shares, Alike}
@@ -12,7 +12,7 @@ use Rattle.clause.specs.Reduced.{wider, some, minimal, placed, arranged, reduced
 -- each stands so to all after it
 abbrev pub Pairs : (ℕ → ℕ → Type 0) → List ℕ → Type 0
 Pairs R [] = Unit {0}
-Pairs R (x ∷ xs) = All (R x) xs × Pairs R xs
+Pairs R (x ∷ xs) = AllByRecursion (R x) xs × Pairs R xs
 
 pub pairs_get_d : (R : ℕ → ℕ → Type 0) (xs : List ℕ) → Pairs R xs → (i j : ℕ) → i < j → j < length xs → R (get_or xs i 0) (get_or xs j 0)
 pairs_get_d R [] p i j l h = absurd (omega arith)
@@ -25,10 +25,10 @@ by_cond : {X : Type 0} (P : X → Type 0) (b : Bool) (x y : X) → (b ≡ true �
 by_cond P true x y f g = f refl
 by_cond P false x y f g = g refl
 
-all_placed : (P : ℕ → Type 0) (c : ℕ) (ks : List ℕ) → P c → All P ks → All P (placed c ks)
+all_placed : (P : ℕ → Type 0) (c : ℕ) (ks : List ℕ) → P c → AllByRecursion P ks → AllByRecursion P (placed c ks)
 all_placed P c [] p a = (p, tt)
 all_placed P c (k ∷ ks) p a =
-    by_cond (All P) (ltb c k) _ _ (λ _. (p, a)) (λ _. by_cond (All P) (eqb c k) _ _ (λ _. a) (λ _. (a.0, all_placed P c ks p a.1)))
+    by_cond (AllByRecursion P) (ltb c k) _ _ (λ _. (p, a)) (λ _. by_cond (AllByRecursion P) (eqb c k) _ _ (λ _. a) (λ _. (a.0, all_placed P c ks p a.1)))
 
 pairs_placed : (c : ℕ) (ks : List ℕ) → Pairs ◌<◌ ks → Pairs ◌<◌ (placed c ks)
 pairs_placed c [] p = (tt, tt)
@@ -38,7 +38,7 @@ pairs_placed c (k ∷ ks) p =
     (λ e. by_cond (Pairs ◌<◌) (eqb c k) _ _ (λ _. p)
     (λ f. let n = eqb-false c k f in let g = ltb-false c k e in (all_placed (λ x. k < x) c ks (omega arith) p.0, pairs_placed c ks p.1)))
 
-pub all_arranged : (P : ℕ → Type 0) (cs : List ℕ) → All P cs → All P (arranged cs)
+pub all_arranged : (P : ℕ → Type 0) (cs : List ℕ) → AllByRecursion P cs → AllByRecursion P (arranged cs)
 all_arranged P [] a = tt
 all_arranged P (c ∷ cs) a = all_placed P c (arranged cs) a.0 (all_arranged P cs a.1)
 
@@ -47,13 +47,13 @@ pairs_arranged [] = tt
 pairs_arranged (c ∷ cs) = pairs_placed c (arranged cs) (pairs_arranged cs)
 
 -- what holds of all clauses holds of all that are left
-pub all_reduced : (P : ℕ → Type 0) (xs : List ℕ) → All P xs → All P (reduced xs)
+pub all_reduced : (P : ℕ → Type 0) (xs : List ℕ) → AllByRecursion P xs → AllByRecursion P (reduced xs)
 all_reduced P xs a = all_arranged P (filter (minimal xs) xs) (all_kept_by (minimal xs) P xs a)
 
 pub rises_reduced : (xs : List ℕ) → Rises (reduced xs)
 rises_reduced xs = pairs_get_d ◌<◌ (reduced xs) (pairs_arranged (filter (minimal xs) xs))
 
-pub minimal_reduced : (xs : List ℕ) → All (λ c. minimal xs c ≡ true) (reduced xs)
+pub minimal_reduced : (xs : List ℕ) → AllByRecursion (λ c. minimal xs c ≡ true) (reduced xs)
 minimal_reduced xs = all_arranged (λ c. minimal xs c ≡ true) (filter (minimal xs) xs) (kept_by_passes (minimal xs) xs)
 
 -- a clause is in a list
@@ -61,16 +61,16 @@ abbrev pub In : ℕ → List ℕ → Type 0
 In c [] = ⊥
 In c (x ∷ xs) = (c ≡ x) ⊎ In c xs
 
-all_in : (P : ℕ → Type 0) (xs : List ℕ) (c : ℕ) → All P xs → In c xs → P c
+all_in : (P : ℕ → Type 0) (xs : List ℕ) (c : ℕ) → AllByRecursion P xs → In c xs → P c
 all_in P [] c a i = absurd i
 all_in P (x ∷ xs) c a (inl e) = subst P (sym e) a.0
 all_in P (x ∷ xs) c a (inr i) = all_in P xs c a.1 i
 
-in_all : (P : ℕ → Type 0) (xs : List ℕ) → ((c : ℕ) → In c xs → P c) → All P xs
+in_all : (P : ℕ → Type 0) (xs : List ℕ) → ((c : ℕ) → In c xs → P c) → AllByRecursion P xs
 in_all P [] h = tt
 in_all P (x ∷ xs) h = (h x (inl refl), in_all P xs (λ c i. h c (inr i)))
 
-some_no : (p : ℕ → Bool) (xs : List ℕ) → some p xs ≡ false → All (λ x. p x ≡ false) xs
+some_no : (p : ℕ → Bool) (xs : List ℕ) → some p xs ≡ false → AllByRecursion (λ x. p x ≡ false) xs
 some_no p [] e = tt
 some_no p (x ∷ xs) e = let h = or_parts (p x) (some p xs) e in (h.0, some_no p xs h.1)
 
@@ -110,7 +110,7 @@ in_arranged c (d ∷ cs) (inl e) = in_placed c d (arranged cs) (inl e)
 in_arranged c (d ∷ cs) (inr i) = in_placed c d (arranged cs) (inr (in_arranged c cs i))
 
 -- what holds of all that are left, and of each clause around one of which it holds, holds of all
-module _ (P : ℕ → Type 0) (up : (c d : ℕ) → bit_and d c ≡ d → P d → P c) (xs : List ℕ) (a : All P (reduced xs)) where
+module _ (P : ℕ → Type 0) (up : (c d : ℕ) → bit_and d c ≡ d → P d → P c) (xs : List ℕ) (a : AllByRecursion P (reduced xs)) where
   below : (n c : ℕ) → c < n → In c xs → P c
   below zero c l i = absurd (omega arith)
   below (suc n) c l i =
@@ -125,7 +125,7 @@ module _ (P : ℕ → Type 0) (up : (c d : ℕ) → bit_and d c ≡ d → P d �
             up c d p (below n d (omega (arith, and_le_r d c, p, q)) w.1)
       ]
 
-  pub all_unreduced : All P xs
+  pub all_unreduced : AllByRecursion P xs
   all_unreduced = in_all P xs (λ c i. below (suc c) c (omega arith) i)
 
 lt_two_pow : (n : ℕ) → n < 2 ^ n
@@ -142,7 +142,7 @@ alike_reduced xs = (
 )
 
 -- of two that are left, the second does not contain the first
-apart_by : (xs : List ℕ) (y : ℕ) → minimal xs y ≡ true → All (λ x. wider y x ≡ false) xs
+apart_by : (xs : List ℕ) (y : ℕ) → minimal xs y ≡ true → AllByRecursion (λ x. wider y x ≡ false) xs
 apart_by xs y e = some_no (wider y) xs (not_yes (some (wider y) xs) e)
 
 less : (x y : ℕ) → x < y → wider y x ≡ false → bit_and x y < x

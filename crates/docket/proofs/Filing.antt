@@ -1,6 +1,6 @@
 -- Entries written one after another.
 use Rattle.std.proofs.Common.{◌≡◌, ℕ, ◌+◌, ◌≤◌, List, [], ◌∷◌, ◌++◌, length, take, drop, sym, refl, ap, ◌∙◌, subst, add-zero, add_assoc, arith, length-append, length-drop, take-append-drop}
-use Rattle.std.specs.List.{AllByRecursion as All}
+use Rattle.std.specs.List.{AllByRecursion}
 use Rattle.std.proofs.lemmas.List.{append_assoc, take_at, drop_at, drop-drop, length-take-le}
 use Rattle.std.proofs.lemmas.Bool.{le-leb, cond-true}
 use Rattle.docket.specs.Entries.{Plain, carries, size_of, entry_bytes}
@@ -45,7 +45,7 @@ module _ (e : Plain) (place : ℕ) (bytes : List ℕ) (h : Carried e) (room : pl
       ∙ (ap (λ (x : List ℕ). drop n (drop (place + size_of e) x)) one
       ∙ (ap (drop n) (drop_at front (drop (place + size_of e) bytes) (place + size_of e) length_front) ∙ drop-drop n (place + size_of e) bytes))
 
-filed : (es : List Plain) (place : ℕ) (bytes : List ℕ) → All Carried es → place + docket_size es ≤ length bytes
+filed : (es : List Plain) (place : ℕ) (bytes : List ℕ) → AllByRecursion Carried es → place + docket_size es ≤ length bytes
     → written_all es place bytes ≡ take place bytes ++ (docket_bytes es ++ drop (place + docket_size es) bytes)
 filed [] place bytes h l = sym (ap (λ (k : ℕ). take place bytes ++ drop k bytes) (add-zero place) ∙ take-append-drop place bytes)
 filed (e ∷ es) place bytes h l =

@@ -1,6 +1,6 @@
 -- What the reading of a docket has to do with the writing: laws over entries and whole dockets.
 use Rattle.std.specs.Prelude.{◌≡◌, ℕ, ◌+◌, ◌<◌, ◌≤◌, true, ◌↔◌, List, [], ◌∷◌, ◌++◌, length, take, drop, ◌≢◌}
-use Rattle.std.specs.List.{AllByRecursion as All}
+use Rattle.std.specs.List.{AllByRecursion}
 use Rattle.answer.specs.Told.{Told, granted, refused}
 use Rattle.formula.specs.Keeping.{kept}
 use Rattle.docket.specs.Bits.{unpack}
@@ -10,11 +10,11 @@ use Rattle.docket.specs.Reading.{Standing, entry, over, refusal, read_at}
 
 -- each is a byte
 abbrev pub Bytes : List ℕ → Type 0
-Bytes = All (λ b. b < 256)
+Bytes = AllByRecursion (λ b. b < 256)
 
 -- each is a set of the sixteen parties
 abbrev pub Sets : List ℕ → Type 0
-Sets = All (λ v. v < 65536)
+Sets = AllByRecursion (λ v. v < 65536)
 
 abbrev pub values_of : Told → List ℕ
 values_of (granted vs) = vs
@@ -65,12 +65,12 @@ ReadsOn bytes place (e ∷ es) = (read_at bytes place ≡ entry e (place + size_
 
 -- a whole docket is read back, whatever stands before it
 abbrev pub DocketReadsBack : Type 0
-DocketReadsBack = (es : List Plain) (before : List ℕ) → All Carried es → ReadsOn (before ++ docket_bytes es) (length before) es
+DocketReadsBack = (es : List Plain) (before : List ℕ) → AllByRecursion Carried es → ReadsOn (before ++ docket_bytes es) (length before) es
 
 -- and what is read to the end is a whole docket
 abbrev pub DocketWasWritten : Type 0
 DocketWasWritten =
-    (bytes : List ℕ) (place : ℕ) (es : List Plain) → Bytes bytes → ReadsOn bytes place es → All Carried es × (drop place bytes ≡ docket_bytes es)
+    (bytes : List ℕ) (place : ℕ) (es : List Plain) → Bytes bytes → ReadsOn bytes place es → AllByRecursion Carried es × (drop place bytes ≡ docket_bytes es)
 
 -- entries written one after another from a place on
 abbrev pub written_all : List Plain → ℕ → List ℕ → List ℕ
@@ -85,7 +85,7 @@ docket_size (e ∷ es) = size_of e + docket_size es
 -- back as that list up to their end, where the docket is over
 abbrev pub WrittenReadsBack : Type 0
 WrittenReadsBack =
-    (es : List Plain) (place : ℕ) (bytes : List ℕ) → All Carried es → place + docket_size es ≤ length bytes
+    (es : List Plain) (place : ℕ) (bytes : List ℕ) → AllByRecursion Carried es → place + docket_size es ≤ length bytes
     → (written_all es place bytes ≡ take place bytes ++ (docket_bytes es ++ drop (place + docket_size es) bytes))
     × ReadsOn (take (place + docket_size es) (written_all es place bytes)) place es
 

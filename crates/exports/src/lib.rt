@@ -1,4 +1,6 @@
 //! What a C program calls: the comparison of two formulas, and the docket's reader.
+#![tactic(auto)]
+
 mod compare;
 mod entry;
 mod read;

@@ -1,7 +1,7 @@
 -- Lists of clauses in kept form.
 use Rattle.std.proofs.Common.{◌≡◌, ℕ, suc, ◌<◌, true, false, not, eqb, ltb, leb, List, [], ◌∷◌, length, get_or, take, Some, None, sym, refl, ap, ◌∙◌, subst, inl, inr, arith, length-take}
 use lib.Bits.{bit_and, and_le_l}
-use Rattle.std.specs.List.{AllByRecursion as All}
+use Rattle.std.specs.List.{AllByRecursion}
 use Rattle.std.proofs.ByRecursion.{All-from_get_or}
 use Rattle.std.proofs.lemmas.Bool.{and_parts, and_from, lt-ltb, ltb-true, le-leb, leb-true, eqb-true, eqb-false, ne_eqb, not-true, not-false, not_from_false, and_cases, and_left, cases_lt, cases_Bool, cond-true, cond-false}
 use Rattle.std.proofs.lemmas.List.{take_all, get_or-take}
@@ -39,12 +39,12 @@ apart_yes c d h =
     and_from (ltb c d) (not (wider d c)) (lt-ltb c d h.0)
     (not_from_false (wider d c) (and_left (eqb (bit_and c d) c) (not (eqb c d)) (ne_eqb (bit_and c d) c (λ e. omega (arith, h.1, e)))))
 
-beside_all : (c : ℕ) (ds : List ℕ) → apart_all c ds ≡ true → All (Beside c) ds
+beside_all : (c : ℕ) (ds : List ℕ) → apart_all c ds ≡ true → AllByRecursion (Beside c) ds
 beside_all c [] e = tt
 beside_all c (d ∷ ds) e =
     let h = and_parts (apart c d) (apart_all c ds) e in (beside c d h.0, beside_all c ds h.1)
 
-apart_all_lem : (c : ℕ) (ds : List ℕ) → All (Beside c) ds → apart_all c ds ≡ true
+apart_all_lem : (c : ℕ) (ds : List ℕ) → AllByRecursion (Beside c) ds → apart_all c ds ≡ true
 apart_all_lem c [] a = refl
 apart_all_lem c (d ∷ ds) a = and_from (apart c d) (apart_all c ds) (apart_yes c d a.0) (apart_all_lem c ds a.1)
 
@@ -79,7 +79,7 @@ kept_clauses f =
     simp (p, q) (f.rising i j l n, f.apart i j l n)))
 
 -- each of a formula's clauses is a set of sixteen parties
-pub sixteen_clauses : (f : Formula) → All (λ c. c < 65536) (clauses_of f)
+pub sixteen_clauses : (f : Formula) → AllByRecursion (λ c. c < 65536) (clauses_of f)
 sixteen_clauses f =
     All-from_get_or (λ c. c < 65536) (clauses_of f) 0
     (λ i h. omega (arith, get_or-take f.count f.clauses i 0 (omega (arith, length-take f.count f.clauses)), f.fits i))

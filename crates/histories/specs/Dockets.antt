@@ -1,7 +1,7 @@
 -- The docket: entries as bytes, bytes as entries, and whole dockets.
 use Rattle.std.specs.Prelude.{◌≡◌, ℕ, ◌+◌, ◌<◌, ◌≤◌, Bool, true, false, List, [], ◌∷◌, ◌++◌, map, length, take, drop, Some, None, Ok, Err, ◌≢◌}
 use Rattle.std.proofs.Common.{lit<}
-use Rattle.std.specs.List.{AllByRecursion as All}
+use Rattle.std.specs.List.{AllByRecursion}
 use Rattle.answer.specs.declared.Denial.TheVariants.{NotCovered, Steered}
 use Rattle.answer.specs.declared.Refusal.{Refusal}
 use Rattle.answer.specs.declared.Refusal.TheVariants.{TaskState, RecordState, NoFlow, Denied, Missing, Unlawful}
@@ -220,7 +220,7 @@ pub record Whole : Type 0 where
   pub law_stood : DocketLaws → Stood (33 ∷ 98 ∷ 0 ∷ 6 ∷ []) 0 granting 4
   pub law_apart : DocketLaws → (e : Plain) → Carried e → entry_bytes e ≡ 33 ∷ 98 ∷ 0 ∷ 6 ∷ [] → e ≡ granting
   pub law_docket : DocketLaws → ReadsOn (9 ∷ (33 ∷ 98 ∷ 0 ∷ 6 ∷ [])) 1 (granting ∷ [])
-  pub law_docket_carried : DocketLaws → All Carried (granting ∷ [])
+  pub law_docket_carried : DocketLaws → AllByRecursion Carried (granting ∷ [])
   pub law_docket_bytes : DocketLaws → (es : List Plain) → ReadsOn (33 ∷ []) 0 es → 33 ∷ [] ≡ docket_bytes es
   pub law_written : DocketLaws → written_all (granting ∷ []) 1 (8 ∷ five) ≡ 8 ∷ 33 ∷ 98 ∷ 0 ∷ 6 ∷ 9 ∷ []
   pub law_written_reads : DocketLaws → ReadsOn (8 ∷ 33 ∷ 98 ∷ 0 ∷ 6 ∷ []) 1 (granting ∷ [])

@@ -2,7 +2,7 @@
 use Rattle.std.proofs.Common.{◌≡◌, ℕ, zero, suc, ◌*◌, ◌/◌, ◌%◌, ◌^◌, ◌<◌, ◌≤◌, List, [], ◌∷◌, map, sym, ap, ◌∙◌, pow-suc, arith}
 use lib.Bits.{bit_and, and_step, and_zero_l}
 use Rattle.clause.specs.Meaning.{Meets}
-use Rattle.std.specs.List.{AllByRecursion as All}
+use Rattle.std.specs.List.{AllByRecursion}
 
 -- party 0, when it is there
 first : ℕ → List ℕ → List ℕ
@@ -56,11 +56,11 @@ unfolding singles
 singles_meet zero g = tt
 singles_meet (suc k) g = first_meets (g % 2) g (map (λ c. c * 2) (singles k (g / 2))) (omega arith) (up (singles k (g / 2)) g (singles_meet k (g / 2)))
 
-doubled_fit : (k : ℕ) (cs : List ℕ) → All (λ c. c < 2 ^ k) cs → All (λ c. c < 2 ^ suc k) (map (λ c. c * 2) cs)
+doubled_fit : (k : ℕ) (cs : List ℕ) → AllByRecursion (λ c. c < 2 ^ k) cs → AllByRecursion (λ c. c < 2 ^ suc k) (map (λ c. c * 2) cs)
 doubled_fit k [] m = tt
 doubled_fit k (c ∷ cs) m = let p : 2 ^ suc k ≡ 2 ^ k * 2 = pow-suc 2 k in (omega (arith, m.0), doubled_fit k cs m.1)
 
-first_fits : (b n : ℕ) (rest : List ℕ) → 1 < n → All (λ c. c < n) rest → All (λ c. c < n) (first b rest)
+first_fits : (b n : ℕ) (rest : List ℕ) → 1 < n → AllByRecursion (λ c. c < n) rest → AllByRecursion (λ c. c < n) (first b rest)
 unfolding first
 first_fits zero n rest h m = m
 first_fits (suc b) n rest h m = (h, m)
@@ -69,7 +69,7 @@ one_below : (k : ℕ) → 1 < 2 ^ suc k
 one_below zero = omega arith
 one_below (suc k) = let p : 2 ^ suc (suc k) ≡ 2 ^ suc k * 2 = pow-suc 2 (suc k) in omega (arith, one_below k)
 
-pub singles_fit : (k g : ℕ) → All (λ c. c < 2 ^ k) (singles k g)
+pub singles_fit : (k g : ℕ) → AllByRecursion (λ c. c < 2 ^ k) (singles k g)
 unfolding singles
 singles_fit zero g = tt
 singles_fit (suc k) g = first_fits (g % 2) (2 ^ suc k) (map (λ c. c * 2) (singles k (g / 2))) (one_below k) (doubled_fit k (singles k (g / 2)) (singles_fit k (g / 2)))

@@ -1,6 +1,6 @@
 -- Attackers as formulas, of any number of clauses.
 use Rattle.std.specs.Prelude.{◌≡◌, ℕ, ◌<◌, true, ◌⊎◌, ◌↔◌, List}
-use Rattle.std.specs.List.{AllByRecursion as All}
+use Rattle.std.specs.List.{AllByRecursion}
 use Rattle.clause.specs.Meaning.{Meets, Implies, BothImply, Means}
 use Rattle.clause.specs.Unions.{unions}
 use Rattle.label.specs.declared.kind.Kind.{Kind}
@@ -18,7 +18,7 @@ AttackKind Release r a = (Implies a r.new × (Implies a r.held.sight → ⊥)) �
 AttackKind Endorse r a = (Implies a r.task.hand × Implies a r.held.hand) × (Implies a r.new → ⊥)
 
 pub record Attack (r : Asked) (a : List ℕ) : Type 0 where
-  pub parties : All (λ clause. clause < 65536) a
+  pub parties : AllByRecursion (λ clause. clause < 65536) a
   pub gains : AttackKind r.kind r a
 
 -- an attacker exists exactly when a group steers

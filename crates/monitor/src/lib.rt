@@ -1,4 +1,6 @@
 //! The yard label monitor: it keeps figures under labels, and rules on every use of them.
+#![tactic(auto)]
+
 mod monitor;
 mod tables;
 

@@ -1,4 +1,3 @@
-use Rattle.std.proofs.Common.{◌≡◌, sym, refl, ap, ◌∙◌}
 use Rattle.monitor.specs.View.{view}
 use Rattle.monitor.proofs.Keeps.{sound_record}
 use Rattle.monitor.proofs.monitor.Monitor.change.Goals as goal

@@ -1,6 +1,3 @@
-use Rattle.std.proofs.Common.{◌≡◌, sym, refl, ap, ◌∙◌, arith}
-use Rattle.std.proofs.lemmas.Bool.{le-leb}
-use Rattle.rules.specs.State.{bounded}
 use Rattle.monitor.specs.View.{view}
 use Rattle.monitor.proofs.Keeps.{sound_blank}
 use Rattle.monitor.proofs.monitor.Monitor.new.Goals as goal

@@ -1,6 +1,4 @@
-use Rattle.std.proofs.Common.{◌≡◌, sym, refl, ap, ◌∙◌, arith}
-use Rattle.std.proofs.lemmas.Bool.{le-leb}
-use Rattle.rules.specs.State.{bounded}
+use Rattle.std.proofs.Common.{refl}
 use Rattle.monitor.specs.View.{view}
 use Rattle.monitor.proofs.Keeps.{sound_task}
 use Rattle.monitor.proofs.monitor.Monitor.open.Goals as goal
