@@ -1,9 +1,9 @@
 -- Words taken from a line, one at a time.
-use Rattle.std.proofs.Common.{◌≡◌, ℕ, Bool, true, false, cond, eqb, List, [], ◌∷◌, Some, None, Option, sym, refl, ap, ◌∙◌, subst, Bor}
+use Rattle.std.proofs.Common.{◌≡◌, ℕ, Bool, true, false, eqb, List, [], ◌∷◌, Some, None, Option, sym, refl, ap, ◌∙◌, subst, Bor}
 use Rattle.std.proofs.lemmas.Bool.{cond-true, cond-false}
 use Rattle.words.specs.Parted.{parted, before, Cut}
 use Rattle.words.proofs.Parts.{cut_parts, parts_of}
-use Rattle.lines.specs.Forms.{Words, Form, one, given, ends}
+use Rattle.lines.specs.Forms.{Words, Form, given, ends}
 use Rattle.lines.specs.Left.{left_of, Took, Taken}
 
 same_left : (o : Option (Bor (List ℕ))) → parts_of 32 o ≡ left_of o

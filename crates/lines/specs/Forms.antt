@@ -1,5 +1,5 @@
 -- The forms of a line: which words it has, and which call they write.
-use Rattle.std.specs.Prelude.{ℕ, Bool, true, false, cond, List, [], ◌∷◌, length, Some, None, codes, Option, ◌==◌, nat_le}
+use Rattle.std.specs.Prelude.{ℕ, cond, List, [], ◌∷◌, length, Some, None, codes, Option, ◌==◌, nat_le}
 use Rattle.std.specs.Str.{bytes_eq}
 use Rattle.key.specs.declared.mode.Mode.{Mode}
 use Rattle.words.specs.Hex.{hex_four}

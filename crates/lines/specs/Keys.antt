@@ -5,7 +5,6 @@ use Rattle.answer.specs.declared.Answer.TheVariants.{Refused}
 use Rattle.answer.specs.Told.{told}
 use Rattle.formula.specs.Of.{clauses_of}
 use Rattle.label.specs.declared.label.Label.{Label}
-use Rattle.label.specs.Labels.{labelled}
 use Rattle.key.specs.declared.plain.Plain.{Plain as PlainKey}
 use Rattle.key.specs.declared.bounded.Bounds.{Bounds}
 use Rattle.key.specs.Requests.{Limits, limits}

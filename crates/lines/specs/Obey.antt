@@ -3,11 +3,9 @@
 use Rattle.std.specs.Prelude.{ℕ, List, [], ◌∷◌, Some, None, Option}
 use Rattle.answer.specs.Told.{Told, granted, refused}
 use Rattle.formula.specs.Forms.{reduces}
-use Rattle.label.specs.Labels.{Marks}
 use Rattle.rules.specs.State.{State}
 use Rattle.rules.specs.Step.{Ruled, refuse, entering, opening, closing, taking, putting, dropping, showing, changing}
 use Rattle.label.specs.declared.kind.Kind.TheVariants.{Release, Endorse}
-use Rattle.key.specs.Requests.{Limits}
 use Rattle.key.specs.Meanings.{Meaning, plain, robust, bounded}
 use Rattle.lines.specs.Forms.{Form, enters, opens, closes, takes, puts, drops, shows, releases, endorses, KeyForm, plains, robusts, boundeds, form_of}
 

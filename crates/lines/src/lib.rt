@@ -1,4 +1,6 @@
 //! Call lines: what a line says, and what the monitor answers to it.
+#![tactic(auto)]
+
 mod answering;
 mod call;
 mod forms;

@@ -1,4 +1,4 @@
-use Rattle.std.proofs.Common.{◌≡◌, sym, refl, ap, ◌∙◌, rules}
+use Rattle.std.proofs.Common.{ap, ◌∙◌}
 use Rattle.lines.specs.Forms.{ends}
 use Rattle.lines.specs.Left.{left_of}
 use Rattle.lines.proofs.Taking.{ends_more}

@@ -1,4 +1,3 @@
-use Rattle.std.proofs.Common.{rules}
 use Rattle.words.specs.Hex.{hex_four}
 use Rattle.lines.proofs.Taking.{taken}
 use Rattle.lines.proofs.words_left.WordsLeft.group.Goals as goal

@@ -1,8 +1,7 @@
-use Rattle.std.proofs.Common.{◌≡◌, ℕ, sym, refl, ap, ◌∙◌, arith, rules}
+use Rattle.std.proofs.Common.{◌∙◌, arith}
 use Rattle.std.proofs.lemmas.Bool.{ne_eqb, cond-false}
 use Rattle.words.specs.Formulas.{formula_of}
 use Rattle.lines.specs.Forms.{one, wraps, plains}
-use Rattle.lines.specs.Left.{left}
 use Rattle.lines.proofs.words_left.WordsLeft.key.Goals as goal
 
 pub returns-in_default : goal.returns-in_default

@@ -1,4 +1,4 @@
-use Rattle.std.proofs.Common.{◌≡◌, sym, refl, ap, ◌∙◌, rules}
+use Rattle.std.proofs.Common.{ap}
 use Rattle.lines.specs.Left.{left_of}
 use Rattle.lines.proofs.Taking.{took}
 use Rattle.lines.proofs.words_left.WordsLeft.word.Goals as goal
