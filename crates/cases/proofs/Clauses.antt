@@ -1,10 +1,10 @@
 -- The rows of groups and clauses hold.
-use Rattle.std.proofs.Common.{◌≡◌, ℕ, zero, suc, ◌/◌, ◌%◌, ◌^◌, ◌<◌, ◌≤◌, Bool, true, false, not, ◌&&◌, eqb, ◌⊎◌, List, [], ◌∷◌, get_or, refl, subst₂, inl, inr, true≢false, arith, lit<, lit≤}
+use Rattle.std.proofs.Common.{◌≡◌, ℕ, zero, suc, ◌/◌, ◌%◌, ◌^◌, ◌<◌, ◌≤◌, true, not, ◌&&◌, eqb, [], ◌∷◌, get_or, refl, subst₂, inl, inr, arith, lit<, lit≤}
 use mathlib.Core.Bool.{false≢true}
 use lib.Bits.{bit_and, and_shifted}
 use Rattle.clause.specs.Groups.{least}
 use Rattle.clause.specs.Meaning.{Meets}
-use Rattle.clause.specs.Parties.{Member, InBoth}
+use Rattle.clause.specs.Parties.{InBoth}
 use Rattle.clause.specs.Parts.{Over, Least}
 use Rattle.lowest.specs.First.{Lowest}
 use Rattle.cases.specs.Table.{two}

@@ -1,8 +1,8 @@
 -- The rows of formulas hold.
-use Rattle.std.proofs.Common.{◌≡◌, ℕ, zero, suc, ◌<◌, ◌≤◌, List, [], ◌∷◌, get_or, take, Some, sym, refl, ap, subst, ap₂, arith, lit<, lit≤}
+use Rattle.std.proofs.Common.{ℕ, zero, suc, ◌<◌, List, [], ◌∷◌, get_or, take, Some, sym, refl, ap, subst, ap₂, arith, lit<, lit≤}
 use lib.Bits.{bit_and}
 use Rattle.clause.specs.Meaning.{Meets, Means}
-use Rattle.formula.specs.Kept.{Unused, Rising, Apart, Sixteen}
+use Rattle.formula.specs.Kept.{Unused, Sixteen}
 use Rattle.cases.specs.Table.{one_two}
 use Rattle.cases.specs.Formulas.{eight, Sized, KeptForms, HeldForms, Formulas}
 use Rattle.cases.proofs.Apart.{differ}

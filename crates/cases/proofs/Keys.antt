@@ -1,10 +1,10 @@
 -- The rows of keys hold.
-use Rattle.std.proofs.Common.{◌≡◌, ℕ, zero, suc, ◌<◌, ◌⊎◌, List, [], ◌∷◌, Ok, Err, refl, inl, inr, arith, lit<}
+use Rattle.std.proofs.Common.{◌≡◌, ℕ, zero, suc, ◌<◌, [], refl, inl, inr, arith, lit<}
 use Rattle.answer.specs.declared.Denial.TheVariants.{NotCovered}
-use Rattle.label.specs.declared.kind.Kind.TheVariants.{Release, Endorse}
+use Rattle.label.specs.declared.kind.Kind.TheVariants.{Release}
 use Rattle.key.specs.declared.mode.Mode.TheVariants.{Releases, Endorsements, Both}
-use Rattle.key.specs.Meanings.{Verdict, grant, robust, bounded}
-use Rattle.key.specs.Laws.{Gains, Steers, PlainGrants, BelowHigh, ReleasesRobustly, OverRobust, itself, wrapped, elsewhere}
+use Rattle.key.specs.Meanings.{robust, bounded}
+use Rattle.key.specs.Laws.{Gains, Steers, PlainGrants, ReleasesRobustly, itself, wrapped, elsewhere}
 use Rattle.cases.specs.Table.{label, release, one, two, one_two}
 use Rattle.cases.specs.Keys.{letting, always, never, around, Answering, Put, Stated, Limited, Lawful, Robustly, Keys}
 use Rattle.cases.proofs.Apart.{differ}

@@ -1,7 +1,7 @@
 -- The rows of labels hold.
-use Rattle.std.proofs.Common.{◌≡◌, ℕ, ◌<◌, Bool, true, false, List, [], ◌∷◌, get_or, sym, refl, ap, ◌∙◌, true≢false, arith, lit<}
+use Rattle.std.proofs.Common.{ℕ, ◌<◌, List, get_or, sym, refl, ap, ◌∙◌, true≢false, arith, lit<}
 use mathlib.Core.Bool.{false≢true}
-use Rattle.answer.specs.Told.{Told, question_of}
+use Rattle.answer.specs.Told.{question_of}
 use Rattle.label.specs.Labels.{Marks}
 use Rattle.cases.specs.Labels.{Touching, Joining, Ordered, Labels}
 use Rattle.cases.proofs.Apart.{differ}

@@ -1,10 +1,9 @@
 -- The rows of the label model hold.
-use Rattle.std.proofs.Common.{◌≡◌, ℕ, ◌<◌, ◌⊎◌, List, [], ◌∷◌, refl, inl, inr, arith, lit<}
+use Rattle.std.proofs.Common.{ℕ, ◌<◌, List, [], refl, inl, inr, arith, lit<}
 use Rattle.clause.specs.Meaning.{Implies}
 use Rattle.key.specs.declared.mode.Mode.TheVariants.{Releases, Endorsements, Both}
-use Rattle.key.specs.Meanings.{Meaning}
 use Rattle.model.specs.Privileges.{robustly, boundedly}
-use Rattle.cases.specs.Table.{label, release, endorse, one, two, four, one_two}
+use Rattle.cases.specs.Table.{label, release, one, two, four, one_two}
 use Rattle.cases.specs.Keys.{always}
 use Rattle.cases.specs.Models.{showing, limits, Lattices, Privileges, Attackers, Models}
 use Rattle.cases.proofs.Apart.{differ}

@@ -2,7 +2,7 @@
 use Rattle.std.proofs.Common.{ℕ, [], get_or, refl}
 use Rattle.answer.specs.Told.{granted}
 use Rattle.clause.specs.Groups.{least}
-use Rattle.cases.specs.Table.{Row, reducing, Holds, rows, Worked}
+use Rattle.cases.specs.Table.{reducing, Holds, rows, Worked}
 
 abbrev HoldsAt : ℕ → Type 0
 HoldsAt i = Holds (get_or rows i (reducing [] (granted [])))

@@ -1,6 +1,5 @@
 -- Keys: who gains, who steers, and what each key's law says of them.
-use Rattle.std.specs.Prelude.{◌≡◌, ℕ, ◌<◌, true, false, ◌⊎◌, List, [], ◌∷◌, Some, None, Ok, Err, ◌≢◌}
-use Rattle.answer.specs.declared.Denial.{Denial}
+use Rattle.std.specs.Prelude.{◌≡◌, ℕ, ◌<◌, true, false, List, [], ◌∷◌, Some, None, Err, ◌≢◌}
 use Rattle.answer.specs.declared.Denial.TheVariants.{NotCovered, OutsideMode, AboveHigh, BelowLow, Steered}
 use Rattle.formula.specs.Of.{clauses_of}
 use Rattle.label.specs.declared.kind.Kind.TheVariants.{Release, Endorse}
@@ -10,7 +9,7 @@ use Rattle.key.specs.declared.mode.Mode.TheVariants.{Releases, Endorsements, Bot
 use Rattle.key.specs.declared.request.Request.{Request}
 use Rattle.key.specs.declared.bounded.Bounds.{Bounds}
 use Rattle.key.specs.Requests.{Asked, asked, Limits, limits}
-use Rattle.key.specs.Meanings.{Meaning, Verdict, grant, plain, covers, passing, gains, steers_kind, steers, unless_steered, robust_says, robust, bounded_says, bounded}
+use Rattle.key.specs.Meanings.{Meaning, grant, plain, covers, passing, gains, steers, unless_steered, robust, bounded}
 use Rattle.key.specs.Laws.{Sees, HasHand, Everybody, Nobody, Gains, Steers, PlainGrants, Flows, CoveredByBoth, BelowHigh, AboveLow, KeyLaws, ReleasesRobustly, OverRobust, OverRobustLaw}
 use Rattle.cases.specs.Table.{label, release, endorse, one, two, three, four, one_two}
 

@@ -1,6 +1,5 @@
 -- Marks and labels.
-use Rattle.std.specs.Prelude.{◌≡◌, ℕ, ◌<◌, Bool, true, false, not, List, [], ◌∷◌, length, Ok, Err, Result, ◌==◌, ◌≢◌}
-use Rattle.answer.specs.declared.Refusal.{Refusal}
+use Rattle.std.specs.Prelude.{◌≡◌, ℕ, ◌<◌, Bool, true, false, not, List, [], ◌∷◌, length, Ok, Err, ◌==◌, ◌≢◌}
 use Rattle.answer.specs.declared.Refusal.TheVariants.{LargeFormula, LargeLabel}
 use Rattle.clause.specs.Meaning.{Meets}
 use Rattle.formula.specs.Of.{clauses_of}

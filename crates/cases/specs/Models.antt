@@ -1,7 +1,6 @@
 -- The label model: the lattice, privileges, and attackers.
-use Rattle.std.specs.Prelude.{◌≡◌, ℕ, ◌<◌, true, List, [], ◌∷◌, Err}
-use Rattle.answer.specs.declared.Denial.TheVariants.{NotCovered}
-use Rattle.clause.specs.Meaning.{Implies, Alike, Meets, Means}
+use Rattle.std.specs.Prelude.{◌≡◌, ℕ, ◌<◌, true, List, [], ◌∷◌}
+use Rattle.clause.specs.Meaning.{Implies, Alike, Means}
 use Rattle.label.specs.declared.kind.Kind.TheVariants.{Release, Endorse}
 use Rattle.label.specs.Labels.{Marks, flows, join}
 use Rattle.key.specs.declared.mode.Mode.TheVariants.{Releases, Endorsements, Both}
@@ -10,9 +9,9 @@ use Rattle.key.specs.Meanings.{Meaning, grant, plain, robust, bounded, covers}
 use Rattle.key.specs.Laws.{Steers}
 use Rattle.model.specs.Lattice.{meet, Lattice}
 use Rattle.model.specs.Privileges.{FlowsWith, new_label, PlainIsFlow, BoundedByJoins, robustly, boundedly, wrap, Stacking, RobustTwice}
-use Rattle.model.specs.Attackers.{AttackKind, Attack, AttackersAreGroups, ChecksKind, ChecksExact, WeakerKind, Weakened, weakened_kind, WeakenedExists}
+use Rattle.model.specs.Attackers.{Attack, AttackersAreGroups, ChecksKind, ChecksExact, WeakerKind, Weakened, weakened_kind, WeakenedExists}
 use Rattle.cases.specs.Table.{label, release, endorse, one, two, three, four, one_two}
-use Rattle.cases.specs.Keys.{always, never}
+use Rattle.cases.specs.Keys.{always}
 
 pub record Lattices : Type 0 where
   pub meeting : meet (label one four) (label two (8 ∷ [])) ≡ label three (4 ∷ 8 ∷ [])

@@ -1,11 +1,10 @@
 -- The worked cases, one row each.
-use Rattle.std.specs.Prelude.{◌≡◌, ℕ, Bool, true, false, List, [], ◌∷◌, Ok, Err}
+use Rattle.std.specs.Prelude.{◌≡◌, ℕ, Bool, true, false, List, [], ◌∷◌, Err}
 use Rattle.std.specs.List.{AllByRecursion}
 use Rattle.answer.specs.declared.Denial.TheVariants.{NotCovered, OutsideMode, BelowLow, Steered}
 use Rattle.answer.specs.Told.{Told, granted, refused}
 use Rattle.clause.specs.Groups.{met, within}
 use Rattle.formula.specs.Forms.{reduces, fitting, both, either}
-use Rattle.label.specs.declared.kind.Kind.{Kind}
 use Rattle.label.specs.declared.kind.Kind.TheVariants.{Release, Endorse}
 use Rattle.label.specs.Labels.{Marks}
 use Rattle.key.specs.declared.mode.Mode.TheVariants.{Releases, Both}

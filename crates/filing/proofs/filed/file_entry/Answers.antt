@@ -15,7 +15,7 @@ invariant_of-result c =
       | in-Ok w ↦ subst (λ (n : ℕ). n ≤ 21) (sym w.count-is) (filed_ok e few (replicate 21 0) c.write_entry.new.bytes refl c.write_entry.ensures.after w.in-Ok.next w.in-Ok.ensures.answer).0
       | in-Err w ↦ omega (arith, w.count-is)
     ] in
-    (small, tt)
+    record { small = small }
 
 pub returns : goal.returns
 returns c =
