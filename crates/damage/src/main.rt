@@ -1,5 +1,7 @@
 //! Reads damaged dockets, a line of hexadecimal digits each, and prints what the docket's reader says
 //! stands at their start, and the bytes that the writer makes of an entry that it found. The expected text comes from another decoder: see tools/damage.
+#![tactic(auto)]
+
 ghost use Rattle.std.specs.Prelude.{◌<◌};
 
 use answer::Refusal;

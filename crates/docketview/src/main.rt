@@ -1,5 +1,7 @@
 //! Prints a docket file, one entry a line: its place, the kind, the task, the record, the answer and
 //! the new formula. Where the bytes are damaged it says where and by which question, and stops.
+#![tactic(auto)]
+
 use answer::{Answer, Text};
 use anyhow::anyhow;
 use docket::{Entry, Read, read_entry};

@@ -1,4 +1,6 @@
 //! What a line leaves in the docket.
+#![tactic(auto)]
+
 mod entry;
 mod filed;
 

@@ -1,4 +1,6 @@
 //! Reads call lines from standard input, and prints each line's number and answer.
+#![tactic(auto)]
+
 mod arguments;
 mod input;
 mod meaning;

@@ -1,4 +1,4 @@
-use Rattle.std.proofs.Common.{◌≡◌, ℕ, ◌≤◌, List, take, replicate, sym, refl, subst, arith}
+use Rattle.std.proofs.Common.{◌≡◌, ℕ, ◌≤◌, take, replicate, sym, refl, subst, arith}
 use Rattle.formula.proofs.Forming.{eight}
 use Rattle.docket.specs.Entries.{plain_of}
 use Rattle.filing.specs.Filing.{bytes_of}
