@@ -1,5 +1,5 @@
 -- The rows of calls hold.
-use Rattle.std.proofs.Common.{◌≡◌, ℕ, zero, suc, [], ◌∷◌, refl}
+use Rattle.std.proofs.Common.{zero, suc, [], ◌∷◌, refl}
 use mathlib.Core.Bool.{false≢true}
 use Rattle.clause.specs.Groups.{least}
 use Rattle.rules.specs.State.{vacant, holds, AllBounded}

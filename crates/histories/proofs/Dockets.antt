@@ -1,5 +1,5 @@
 -- The rows of the docket hold.
-use Rattle.std.proofs.Common.{◌≡◌, ℕ, ◌<◌, List, [], ◌∷◌, length, get_or, Ok, Err, refl, ap, true≢false, arith, lit<, lit≤}
+use Rattle.std.proofs.Common.{ℕ, ◌<◌, List, [], ◌∷◌, length, get_or, Ok, Err, refl, ap, true≢false, arith, lit<, lit≤}
 use mathlib.Core.Bool.{false≢true}
 use Rattle.answer.specs.Told.{question_of}
 use Rattle.docket.specs.Reading.{Reading, Standing, entry, over, refusal}

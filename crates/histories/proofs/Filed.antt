@@ -1,5 +1,5 @@
 -- The rows of the docket's lines, of C and of the monitor hold.
-use Rattle.std.proofs.Common.{◌≡◌, ℕ, ◌<◌, List, [], ◌∷◌, map, length, get_or, sym, refl, ap, ◌∙◌, true≢false, arith, lit<, lit≤}
+use Rattle.std.proofs.Common.{◌≡◌, ℕ, ◌<◌, [], ◌∷◌, map, get_or, sym, refl, ap, ◌∙◌, true≢false, arith, lit<}
 use mathlib.Core.Bool.{false≢true}
 use Rattle.answer.specs.Told.{Told, granted, refused, question_of}
 use Rattle.clause.specs.Groups.{least}

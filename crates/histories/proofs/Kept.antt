@@ -1,12 +1,12 @@
 -- The rows of what a call may alter hold.
-use Rattle.std.proofs.Common.{◌≡◌, ℕ, zero, suc, Bool, true, false, ◌⊎◌, List, [], ◌∷◌, sym, refl, ap, ◌∙◌, inl, inr, true≢false, arith}
+use Rattle.std.proofs.Common.{◌≡◌, ℕ, zero, suc, true, false, sym, refl, ap, ◌∙◌, inl, inr, true≢false, arith}
 use mathlib.Core.Bool.{false≢true}
 use Rattle.rules.specs.State.{State, Place, vacant, holds, record_at, task_at}
 use Rattle.rules.specs.Runs.{figure_of, Show, is_granted}
 use Rattle.rules.specs.Tracking.{Alike, empty, filled, Agree}
-use Rattle.rules.specs.Laws.{OnlyAt, Same, is_held, NoneGoes, NoneComes}
+use Rattle.rules.specs.Laws.{OnlyAt, is_held, NoneGoes, NoneComes}
 use Rattle.histories.specs.Short.{free}
-use Rattle.histories.specs.Kept.{bare, second, both, task, mixed, moved, Kept}
+use Rattle.histories.specs.Kept.{bare, second, both, task, moved, Kept}
 use Rattle.histories.proofs.Apart.{differ}
 
 -- vacant and held are not the same

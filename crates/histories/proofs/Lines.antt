@@ -1,15 +1,15 @@
 -- The rows of lines hold.
-use Rattle.std.proofs.Common.{◌≡◌, ℕ, true, false, cond, eqb, List, [], ◌∷◌, map, length, get_or, Some, None, codes, Option, sym, refl, ap, ◌∙◌, subst, ap₂, true≢false}
+use Rattle.std.proofs.Common.{◌≡◌, ℕ, true, false, cond, eqb, List, [], ◌∷◌, map, length, get_or, Some, None, codes, Option, sym, refl, ap, ◌∙◌, ap₂, true≢false}
 use Rattle.std.specs.Fmt.{digits}
 use Rattle.answer.specs.Told.{Told, granted, refused}
 use Rattle.clause.specs.Groups.{least}
-use Rattle.key.specs.Meanings.{Meaning, plain, robust, bounded}
+use Rattle.key.specs.Meanings.{plain, robust, bounded}
 use Rattle.key.specs.Requests.{Limits, limits}
-use Rattle.rules.specs.State.{State, blank}
+use Rattle.rules.specs.State.{blank}
 use Rattle.rules.specs.Step.{Ruled, done}
 use Rattle.rules.specs.Runs.{is_granted}
-use Rattle.lines.specs.Forms.{Form, closes, Words, KeyForm, plains}
-use Rattle.histories.specs.Short.{label, one, two, three}
+use Rattle.lines.specs.Forms.{Form, closes, plains}
+use Rattle.histories.specs.Short.{one}
 use Rattle.histories.specs.Lines.{followed, day, above, read_limits, Lines, Read}
 use Rattle.histories.proofs.Apart.{differ}
 

@@ -1,19 +1,19 @@
 -- The rows of the promise hold.
-use Rattle.std.proofs.Common.{◌≡◌, ℕ, zero, suc, Bool, true, false, ◌⊎◌, List, [], ◌∷◌, length, get_or, sym, refl, ap, ◌∙◌, inl, inr, true≢false, lit<}
+use Rattle.std.proofs.Common.{◌≡◌, ℕ, zero, suc, true, false, ◌⊎◌, List, [], ◌∷◌, length, get_or, sym, refl, ap, ◌∙◌, inl, inr, true≢false, lit<}
 use mathlib.Core.Bool.{false≢true}
 use Rattle.answer.specs.Told.{Told, granted, refused}
 use Rattle.clause.specs.Parts.{Part}
 use Rattle.clause.specs.Groups.{least}
-use Rattle.label.specs.declared.kind.Kind.TheVariants.{Release, Endorse}
-use Rattle.label.specs.Labels.{Marks, sees, handed}
+use Rattle.label.specs.declared.kind.Kind.TheVariants.{Release}
+use Rattle.label.specs.Labels.{Marks, sees}
 use Rattle.key.specs.declared.mode.Mode.TheVariants.{Both}
 use Rattle.key.specs.Laws.{itself}
-use Rattle.rules.specs.State.{State, Place, vacant, holds, record_at, task_at, blank}
-use Rattle.rules.specs.Runs.{Call, Enter, Open, Close, Take, Put, Drop, Show, Change, Twin, same, figures, lefts, run, figure_of, is_granted}
-use Rattle.rules.specs.Tracking.{Touched, Alike, empty, filled, Agree, Answered, equal, shown}
+use Rattle.rules.specs.State.{Place, vacant, holds, record_at, task_at, blank}
+use Rattle.rules.specs.Runs.{Call, Enter, Open, Close, Take, Put, Drop, Show, Change, same, figures, lefts, run, is_granted}
+use Rattle.rules.specs.Tracking.{Touched, Alike, empty, filled, Answered, equal, shown}
 use Rattle.rules.specs.Promise.{lets_in, Matches, equal as equally, apart, Unmoved}
 use Rattle.histories.specs.Short.{label, one, two, free, always}
-use Rattle.histories.specs.Promised.{never, touched, untouched, handy, mine, holding, Named, Agreed, hidden, own, entered_apart, robustly, Promises, Promised}
+use Rattle.histories.specs.Promised.{touched, mine, holding, Named, Agreed, hidden, own, entered_apart, robustly, Promises, Promised}
 use Rattle.histories.proofs.Apart.{differ}
 
 seven : ◌≡◌ {A = ℕ} 7 8 → ⊥

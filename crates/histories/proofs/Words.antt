@@ -1,5 +1,5 @@
 -- The rows of words hold.
-use Rattle.std.proofs.Common.{◌≡◌, ℕ, zero, suc, ◌<◌, List, [], ◌∷◌, length, get_or, take, codes, sym, refl, ap, ◌∙◌, ap₂, arith, lit<}
+use Rattle.std.proofs.Common.{ℕ, zero, suc, ◌<◌, List, length, get_or, take, codes, sym, refl, ap, ◌∙◌, ap₂, arith, lit<}
 use Rattle.words.specs.Parted.{Without}
 use Rattle.histories.specs.Words.{Words}
 use Rattle.histories.proofs.Apart.{differ}

@@ -1,13 +1,13 @@
 -- Histories of calls, from a new monitor on: what each is answered, and what is left.
-use Rattle.std.specs.Prelude.{◌≡◌, ℕ, ◌+◌, ◌*◌, true, false, cond, List, [], ◌∷◌, map, length, Ok, Err, slice_index}
+use Rattle.std.specs.Prelude.{◌≡◌, ℕ, ◌+◌, ◌*◌, true, false, cond, List, [], ◌∷◌, map, length, Err, slice_index}
 use Rattle.answer.specs.declared.Denial.TheVariants.{OutsideMode, Steered}
 use Rattle.answer.specs.Told.{Told, granted, refused}
 use Rattle.label.specs.declared.kind.Kind.TheVariants.{Release, Endorse}
 use Rattle.label.specs.Labels.{Marks, covered}
 use Rattle.key.specs.declared.mode.Mode.TheVariants.{Releases}
 use Rattle.key.specs.Meanings.{Meaning, grant, covers}
-use Rattle.rules.specs.State.{State, Place, vacant, holds, record_at, task_at, with_record, with_task, blank, is_figure, bounded, AllBounded}
-use Rattle.rules.specs.Step.{Ruled, done, worked, is_manner, opener}
+use Rattle.rules.specs.State.{vacant, holds, record_at, task_at, with_record, with_task, blank, is_figure, bounded, AllBounded}
+use Rattle.rules.specs.Step.{Ruled, done, worked, is_manner}
 use Rattle.rules.specs.Runs.{Call, Enter, Open, Close, Take, Put, Drop, Show, Change, step, after, answer, is_granted, run, label_of, figure_of, label_at, figure_at}
 use Rattle.histories.specs.Short.{label, one, two, three, one_two, free, always}
 

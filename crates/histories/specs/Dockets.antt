@@ -1,9 +1,8 @@
 -- The docket: entries as bytes, bytes as entries, and whole dockets.
-use Rattle.std.specs.Prelude.{◌≡◌, ℕ, ◌+◌, ◌<◌, ◌≤◌, Bool, true, false, List, [], ◌∷◌, ◌++◌, map, length, take, drop, Some, None, Ok, Err, ◌≢◌}
+use Rattle.std.specs.Prelude.{◌≡◌, ℕ, ◌≤◌, Bool, true, false, List, [], ◌∷◌, ◌++◌, map, length, take, drop, Some, None, Ok, Err, ◌≢◌}
 use Rattle.std.proofs.Common.{lit<}
 use Rattle.std.specs.List.{AllByRecursion}
-use Rattle.answer.specs.declared.Denial.TheVariants.{NotCovered, Steered}
-use Rattle.answer.specs.declared.Refusal.{Refusal}
+use Rattle.answer.specs.declared.Denial.TheVariants.{NotCovered}
 use Rattle.answer.specs.declared.Refusal.TheVariants.{TaskState, RecordState, NoFlow, Denied, Missing, Unlawful}
 use Rattle.answer.specs.Told.{Told, granted, refused, says, nothing}
 use Rattle.formula.specs.Of.{clauses_of}
@@ -15,11 +14,10 @@ use Rattle.docket.specs.declared.entry.Read.TheVariants.{Found, Over, Refused as
 use Rattle.docket.specs.Bits.{bits, unpack, number, packed}
 use Rattle.docket.specs.Drawing.{reach, drawn, Drew}
 use Rattle.docket.specs.Fetch.{three}
-use Rattle.docket.specs.Entries.{Plain, plain_of, asked, brings, carries_answer, carries, words, answer_bits, answer_size, formula_bits, entry_bits, size_of, entry_bytes}
-use Rattle.docket.specs.Reading.{words_at, Reading, Standing, entry, over, refusal, read_at, number_of, standing, reading, Part, Alone, Small, itself, formula_size}
-use Rattle.docket.specs.Writing.{next_place, room_for, writing, written, ReadsBack}
-use Rattle.docket.specs.Laws.{Bytes, Sets, values_of, Carried, BytesAreBits, EntryReadsBack, Stood, ReadWasWritten, ToldApart, docket_bytes, ReadsOn, DocketReadsBack, DocketWasWritten, written_all, docket_size, WrittenReadsBack, MissingWhereMoreMatters, DocketLaws, WasWritten}
-use Rattle.histories.specs.Short.{one}
+use Rattle.docket.specs.Entries.{Plain, plain_of, carries_answer, carries, words, answer_bits, answer_size, formula_bits, entry_bits, size_of, entry_bytes}
+use Rattle.docket.specs.Reading.{Reading, Standing, entry, over, refusal, read_at, number_of, standing, reading, Part, Alone, Small, itself, formula_size}
+use Rattle.docket.specs.Writing.{room_for, writing, written, ReadsBack}
+use Rattle.docket.specs.Laws.{Bytes, Sets, values_of, Carried, Stood, docket_bytes, ReadsOn, written_all, docket_size, DocketLaws, WasWritten}
 
 -- kind, task, record, answer and the new formula
 abbrev pub plain : Kind → ℕ → ℕ → Told → List ℕ → Plain

@@ -1,31 +1,28 @@
 -- What lines leave in the docket, what C is given, and the monitor's tables.
-use Rattle.std.specs.Prelude.{◌≡◌, ℕ, ◌+◌, true, false, List, [], ◌∷◌, map, take, replicate, Some, None, Ok, Err, codes, Option}
-use Rattle.answer.specs.declared.Refusal.TheVariants.{LongList, LargeFormula, NoSuchNumber, TaskState, RecordState, Missing}
+use Rattle.std.specs.Prelude.{◌≡◌, ℕ, true, false, List, [], ◌∷◌, map, replicate, Some, None, Ok, Err, codes}
+use Rattle.answer.specs.declared.Refusal.TheVariants.{LongList, LargeFormula, NoSuchNumber, TaskState, RecordState}
 use Rattle.answer.specs.Told.{Told, granted, refused}
 use Rattle.label.specs.declared.kind.Kind.TheVariants.{Release, Endorse}
-use Rattle.label.specs.declared.label.Label.{Label}
 use Rattle.label.specs.Labels.{Marks, labelled}
-use Rattle.rules.specs.State.{State, Place, vacant, holds, blank}
-use Rattle.rules.specs.Step.{Ruled, refuse, on_both}
+use Rattle.rules.specs.State.{State, vacant, holds}
 use Rattle.monitor.specs.declared.monitor.fetch.Pair.{Pair}
 use Rattle.monitor.specs.declared.tables.Tables.{Tables}
 use Rattle.monitor.specs.declared.tables.Held.{Held}
-use Rattle.monitor.specs.declared.tables.Slot.{Slot}
 use Rattle.monitor.specs.declared.tables.Slot.TheVariants.{Empty, Filled}
 use Rattle.monitor.specs.View.{place_of, view}
 use Rattle.monitor.specs.Fetch.{Fetched, Sound}
 use Rattle.docket.specs.declared.entry.Entry.{Entry}
-use Rattle.docket.specs.Entries.{Plain, plain_of}
+use Rattle.docket.specs.Entries.{plain_of}
 use Rattle.docket.specs.Reading.{entry, over, refusal}
 use Rattle.exports.specs.declared.compare.Outcome.TheVariants.{No, Yes, First, Second}
 use Rattle.exports.specs.declared.entry.YardEntry.{YardEntry}
-use Rattle.exports.specs.Comparing.{clauses_from, evenly, formula_from, Compared, no, yes, first, second, compared, code_of, outcome_of, ByGroups}
+use Rattle.exports.specs.Comparing.{clauses_from, evenly, formula_from, no, yes, first, second, compared, code_of, outcome_of, ByGroups}
 use Rattle.exports.specs.Entries.{read_code, or_zero, group_in, padded, filled, left}
-use Rattle.lines.specs.Forms.{closes, releases, endorses, plains}
+use Rattle.lines.specs.Forms.{releases, endorses, plains}
 use Rattle.filing.specs.Filing.{verdict, with_new, entry_for, plain_in, bytes_of, bytes_in, line_bytes}
 use Rattle.histories.specs.Short.{label, one, two, three, free}
 use Rattle.histories.specs.Kept.{table}
-use Rattle.histories.specs.Dockets.{plain, granting, steered}
+use Rattle.histories.specs.Dockets.{plain, granting}
 
 -- a line and its answer, and the bytes that they leave
 abbrev pub filings : List ((List ℕ × Told) × List ℕ)

@@ -1,10 +1,10 @@
 -- What a call may alter: the words of the laws of calls, on small tables.
-use Rattle.std.specs.Prelude.{◌≡◌, ℕ, true, false, List, [], ◌∷◌}
-use Rattle.answer.specs.Told.{granted, refused}
+use Rattle.std.specs.Prelude.{◌≡◌, true, false, List, [], ◌∷◌}
+use Rattle.answer.specs.Told.{refused}
 use Rattle.label.specs.declared.kind.Kind.TheVariants.{Release}
-use Rattle.rules.specs.State.{State, Place, vacant, holds, record_at, task_at, blank}
-use Rattle.rules.specs.Runs.{Call, Enter, Open, Close, Take, Put, Drop, Show, Change, after, answer, is_granted}
-use Rattle.rules.specs.Tracking.{Agree, Answered}
+use Rattle.rules.specs.State.{State, Place, vacant, holds, record_at, task_at}
+use Rattle.rules.specs.Runs.{Call, Enter, Open, Close, Take, Put, Drop, Show, Change, after, answer}
+use Rattle.rules.specs.Tracking.{Answered}
 use Rattle.rules.specs.Laws.{OnlyAt, Same, AltersOne, is_held, NoneGoes, NoneComes, LabelsBy, StepLaws}
 use Rattle.histories.specs.Short.{free, always}
 

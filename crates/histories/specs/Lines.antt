@@ -1,30 +1,28 @@
 -- Lines: what they write, and a history of them with what is printed.
-use Rattle.std.specs.Prelude.{◌≡◌, ℕ, zero, suc, true, false, List, [], ◌∷◌, ◌++◌, map, length, replicate, Some, None, Ok, Err, codes, Option}
+use Rattle.std.specs.Prelude.{◌≡◌, ℕ, zero, suc, List, [], ◌∷◌, ◌++◌, map, length, replicate, Some, None, Ok, Err, codes, Option}
 use Rattle.answer.specs.declared.Refusal.TheVariants.{LongList, LargeFormula}
-use Rattle.answer.specs.Told.{granted, refused}
+use Rattle.answer.specs.Told.{granted}
 use Rattle.answer.specs.Text.{text}
 use Rattle.formula.specs.Of.{clauses_of}
 use Rattle.label.specs.declared.label.Label.{Label}
-use Rattle.label.specs.Labels.{Marks}
 use Rattle.key.specs.declared.mode.Mode.TheVariants.{Releases, Endorsements, Both}
 use Rattle.key.specs.declared.plain.Plain.{Plain as PlainKey}
 use Rattle.key.specs.declared.bounded.Bounds.{Bounds}
 use Rattle.key.specs.declared.bounded.Bounded.{Bounded as BoundedKey}
 use Rattle.key.specs.declared.robust.Robust.{Robust as RobustKey}
 use Rattle.key.specs.Requests.{Limits, limits}
-use Rattle.key.specs.Meanings.{Meaning, plain, robust, bounded}
+use Rattle.key.specs.Meanings.{plain, robust, bounded}
 use Rattle.rules.specs.State.{State, blank}
 use Rattle.rules.specs.Step.{Ruled, refuse, done}
 use Rattle.words.specs.declared.clauses.FormulaWord.{FormulaWord}
 use Rattle.words.specs.declared.clauses.FormulaWord.TheVariants.{True, Clauses}
-use Rattle.lines.specs.declared.words_left.WordsLeft.{WordsLeft}
 use Rattle.lines.specs.declared.call.Call.TheVariants.{Enter, Open, Close, Take, Put, Drop, Show, Release, Endorse}
 use Rattle.lines.specs.declared.call.BoundsWords.{BoundsWords}
 use Rattle.lines.specs.declared.call.KeyWords.TheVariants.{Plain, Robust, Bounded, BoundedRobust}
 use Rattle.lines.specs.declared.line_key.LineKey.TheVariants.{Plain as PlainLine, Robust as RobustLine, Bounded as BoundedLine, BoundedRobust as BoundedRobustLine}
-use Rattle.lines.specs.Forms.{Form, enters, opens, closes, takes, puts, drops, shows, releases, endorses, KeyForm, plains, robusts, boundeds, form_of}
+use Rattle.lines.specs.Forms.{Form, enters, opens, closes, takes, puts, drops, shows, releases, endorses, plains, robusts, boundeds, form_of}
 use Rattle.lines.specs.Left.{left, Took, Taken, Ended, key_say, BoundsTaken, KeyTaken, say, say_in}
-use Rattle.lines.specs.Obey.{reducing, with_key, line_ruled, values}
+use Rattle.lines.specs.Obey.{line_ruled, values}
 use Rattle.lines.specs.Keys.{line_meaning, refusing, PlainRead, LabelRead, bounding, BoundsRead, KeyRead}
 use Rattle.words.specs.Hex.{hex_four}
 use Rattle.histories.specs.Short.{one, two, three, one_two, label}

@@ -1,19 +1,19 @@
 -- The words of the promise, and runs at once: what it says, and why it says "until".
-use Rattle.std.specs.Prelude.{◌≡◌, ℕ, ◌<◌, Bool, true, false, ◌||◌, List, [], ◌∷◌, map, length, Err, ◌==◌, refl}
-use Rattle.answer.specs.Told.{Told, granted, refused}
+use Rattle.std.specs.Prelude.{◌≡◌, ℕ, true, false, List, [], ◌∷◌, map, length, Err, ◌==◌, refl}
+use Rattle.answer.specs.Told.{granted, refused}
 use Rattle.answer.specs.declared.Denial.TheVariants.{NotCovered}
 use Rattle.label.specs.declared.kind.Kind.TheVariants.{Release, Endorse}
-use Rattle.label.specs.Marks.{Covered, Group, sight_touches, hand_touches}
-use Rattle.label.specs.Labels.{Marks, sees, handed, flows, join}
-use Rattle.formula.specs.Forms.{both, either}
+use Rattle.label.specs.Marks.{Covered, Group, sight_touches}
+use Rattle.label.specs.Labels.{Marks, sees, flows}
+use Rattle.formula.specs.Forms.{both}
 use Rattle.key.specs.declared.mode.Mode.TheVariants.{Both}
 use Rattle.key.specs.Meanings.{Meaning, robust}
 use Rattle.key.specs.Laws.{KeyLaws, OverRobustLaw}
-use Rattle.rules.specs.State.{State, Place, vacant, holds, record_at, task_at, blank}
-use Rattle.rules.specs.Runs.{Call, Enter, Open, Close, Take, Put, Drop, Show, Change, Twin, same, figures, left, right, lefts, rights, run, after, answer}
-use Rattle.rules.specs.Tracking.{Touched, Lawful, Alike, Agree, Answered, Settled, Touching, AllSettled, Tracks, Tracking, Carried, MarkTracks}
-use Rattle.rules.specs.Promise.{ClosedTo, EnteredBy, lets_in, takes_off, NoneOf, Matches, Secrecy, Unmoved, ShowsOne, Unsteered, Influence, Promise}
-use Rattle.histories.specs.Short.{label, one, two, three, one_two, free, always}
+use Rattle.rules.specs.State.{State, vacant, holds, blank}
+use Rattle.rules.specs.Runs.{Enter, Open, Close, Take, Put, Drop, Show, Change, Twin, same, figures, left, right, lefts, rights, run, answer}
+use Rattle.rules.specs.Tracking.{Touched, Lawful, Alike, Agree, Answered, Settled, Touching, AllSettled, Tracks, Carried, MarkTracks}
+use Rattle.rules.specs.Promise.{ClosedTo, EnteredBy, lets_in, takes_off, NoneOf, Matches, Unmoved, ShowsOne, Promise}
+use Rattle.histories.specs.Short.{label, one, two, three, free, always}
 use Rattle.histories.specs.Kept.{table}
 
 -- a key that grants nothing

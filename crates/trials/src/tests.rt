@@ -62,9 +62,9 @@ fn refused_at(list: &[u16]) -> u8 {
 
 #[test]
 fn reducing(rt: HostRuntime) -> Result<(), Fail> {
-    assert!(rt; formula(&[3, 1])?.as_slice() == &[1]);
+    assert!(rt; formula(&[3, 1])?.as_slice() == [1].as_slice());
     assert!(rt; formula(&[])?.as_slice().is_empty());
-    assert!(rt; formula(&[0, 5])?.as_slice() == &[0]);
+    assert!(rt; formula(&[0, 5])?.as_slice() == [0].as_slice());
     assert!(rt; Formula::falsity() == formula(&[0])?);
     assert_eq!(rt; refused_at(&[1, 2, 4, 8, 16, 32, 64, 128, 256]), 2);
     assert_eq!(rt; refused_at(&[128, 3, 64, 32, 1, 16, 8, 4, 2]), 0);
