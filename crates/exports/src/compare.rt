@@ -7,8 +7,7 @@ use answer::Refusal;
 use formula::Formula;
 
 /// Tells whether one list of clauses implies another, two bytes a clause, high byte first.
-#[unsafe(no_mangle)]
-pub extern "C" fn yard_compare(first: &[u8], second: &[u8]) -> u32
+pub fn yard_compare(first: &[u8], second: &[u8]) -> u32
     ensures answer { result ≡ code_of (compared first.now second.now) }
     ensures means { ByGroups first.now second.now (compared first.now second.now) }
 {

@@ -13,8 +13,7 @@ use formula::Formula;
 use label::Kind;
 
 /// Reads what stands at a place of the docket, and fills `out` where that is an entry.
-#[unsafe(no_mangle)]
-pub extern "C" fn yard_read_entry(bytes: &[u8], place: u64, out: &mut YardEntry) -> u32
+pub fn yard_read_entry(bytes: &[u8], place: u64, out: &mut YardEntry) -> u32
     ensures answer { result ≡ read_code (read_at bytes.now place) }
     ensures after { out.new ≡ left (read_at bytes.now place) out.old }
 {
