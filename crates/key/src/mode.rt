@@ -1,5 +1,5 @@
 ghost use Rattle.std.specs.Prelude.{◌≡◌};
-ghost use Rattle.key.specs.Meanings.{covers as coversKind};
+ghost use Rattle.key.specs.Meanings.{covers as covers_kind};
 
 use label::Kind;
 
@@ -14,7 +14,7 @@ pub enum Mode {
 impl Mode {
     /// Tells whether the mode covers the kind.
     pub fn covers(self, kind: Kind) -> bool
-        ensures { result ≡ coversKind self kind }
+        ensures { result ≡ covers_kind self kind }
     {
         match (self, kind) {
             (Mode::Both, _) => true,

@@ -2,7 +2,7 @@ ghost use Rattle.std.specs.Prelude.{◌≡◌, Decides};
 ghost use Rattle.clause.specs.Groups.{met};
 ghost use Rattle.clause.specs.Meaning.{Implies, ImpliesEither};
 ghost use Rattle.formula.specs.Of.{clauses_of};
-ghost use Rattle.formula.specs.Forms.{either as either_of, fits as fitsEight};
+ghost use Rattle.formula.specs.Forms.{either as either_of, fits as fits_eight};
 ghost use Rattle.label.specs.Marks.{Group, hand_touches};
 ghost use Rattle.label.specs.Tests.{hand_either};
 
@@ -57,7 +57,7 @@ impl Compare for Hand {
 impl Join for Hand {
     ghost joined = { either_of };
 
-    ghost fits = { fitsEight };
+    ghost fits = { fits_eight };
 
     ghost either = { hand_either };
 

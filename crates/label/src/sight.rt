@@ -2,7 +2,7 @@ ghost use Rattle.std.specs.Prelude.{◌≡◌, Decides};
 ghost use Rattle.clause.specs.Groups.{met};
 ghost use Rattle.clause.specs.Meaning.{Implies, BothImply};
 ghost use Rattle.formula.specs.Of.{clauses_of};
-ghost use Rattle.formula.specs.Forms.{both, fits as fitsEight};
+ghost use Rattle.formula.specs.Forms.{both, fits as fits_eight};
 ghost use Rattle.label.specs.Marks.{Group, sight_touches};
 ghost use Rattle.label.specs.Tests.{sight_either};
 
@@ -56,7 +56,7 @@ impl Compare for Sight {
 impl Join for Sight {
     ghost joined = { both };
 
-    ghost fits = { fitsEight };
+    ghost fits = { fits_eight };
 
     ghost either = { sight_either };
 

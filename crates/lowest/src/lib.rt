@@ -3,7 +3,7 @@
 #![tactic(auto)]
 
 ghost use Rattle.std.specs.Prelude.{◌≡◌, ◌-◌, ◌^◌, ◌<◌, not, ◌&&◌, bit_and};
-ghost use Rattle.clause.specs.Groups.{met, lowest, earlier as earlierOf};
+ghost use Rattle.clause.specs.Groups.{met, lowest, earlier as earlier_of};
 ghost use Rattle.lowest.specs.First.{First, Fitting, Missing};
 
 /// The group without one party.
@@ -36,7 +36,7 @@ fn lowest_within(allowed: u16, needs: &[u16], more: &[u16]) -> Option<u16>
 
 /// The earlier of two groups, where there are two.
 pub fn earlier(a: Option<u16>, b: Option<u16>) -> Option<u16>
-    ensures { result ≡ earlierOf a b }
+    ensures { result ≡ earlier_of a b }
 {
     match (a, b) {
         (None, other) => other,
