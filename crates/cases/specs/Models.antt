@@ -45,7 +45,7 @@ pub record Privileges : Type 0 where
   pub above_low : BoundedByJoins → bounded Both limits always showing ≡ grant → flows (label three one_two) (join (label two two) (label one four)) ≡ true
   pub key_below : BoundedByJoins → (k : Meaning) → bounded Both limits k showing ≡ grant → k showing ≡ grant
   pub mode_covers : BoundedByJoins → bounded Endorsements limits always showing ≡ grant → covers Endorsements Release ≡ true
-  pub bounds-grant :
+  pub bounds_grant :
       BoundedByJoins → flows (join (label one_two two) (label one four)) (label one_two three) ≡ true → flows (label three one_two) (join (label two two) (label one four)) ≡ true
       → bounded Both limits always showing ≡ grant
   pub wraps_robustly : (k : Meaning) (r : Asked) → wrap (robustly Both) k r ≡ robust Both k r

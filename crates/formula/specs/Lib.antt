@@ -3,3 +3,4 @@ pub mod Party
 pub mod Of
 pub mod Forms
 pub mod Keeping
+pub mod Equal

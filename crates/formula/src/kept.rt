@@ -8,12 +8,14 @@ mod simple;
 ghost use Rattle.std.specs.Prelude.{◌≤◌};
 ghost use Rattle.formula.specs.Kept.{Unused, Rising, Apart, Sixteen};
 
+pub use equal::equality_is_meaning;
+
 /// A formula in its kept form: at most eight clauses, rising by number, none containing another.
 /// Unused places hold 0, so that formulas with the same clauses are the same value.
 #[derive(Clone, Copy)]
 pub struct Formula {
-    count: usize,
     clauses: [u16; 8],
+    count: usize,
     ghost small: { count ≤ 8 },
     ghost unused: { Unused clauses count },
     ghost rising: { Rising clauses count },

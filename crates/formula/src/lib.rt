@@ -5,5 +5,5 @@ mod gathered;
 mod kept;
 mod party;
 
-pub use kept::Formula;
+pub use kept::{Formula, equality_is_meaning};
 pub use party::Party;

@@ -78,10 +78,10 @@ lines =
       endorse_said = refl;
       said = refl;
       said_none = refl;
-      bounds-taken = λ k next. refl;
-      bounds-not-taken = λ k next. refl;
-      bounds-taken-late = λ t. no_form (t (plains one) (λ k ws. Some (closes 2)));
-      bounds-missed = λ t. some_form (t (plains one) (λ k ws. Some (closes 2)));
+      bounds_taken = λ k next. refl;
+      bounds_not_taken = λ k next. refl;
+      bounds_taken_late = λ t. no_form (t (plains one) (λ k ws. Some (closes 2)));
+      bounds_missed = λ t. some_form (t (plains one) (λ k ws. Some (closes 2)));
       key_taken = λ next. refl;
       key_not_taken = λ next. refl;
       key_taken_late = λ t. no_form (t (λ k ws. Some (closes 2)));
@@ -117,14 +117,14 @@ read =
       label_refused_first = λ t next. refl;
       label_refused_not = λ w. no_refusal refl refl (w blank (λ a b. tell a));
       bounding_words = λ t. refl;
-      bounds-read = λ b e t next. ap next (sym e);
-      bounds-misread = λ b e w. differ {m = 1} {n = 3} refl (ap first_in (w blank read_limits) ∙ ap (λ (x : Limits). first_in (read_limits x)) e);
-      bounds-refused-not = λ w. no_refusal refl refl (w blank read_limits);
+      bounds_read = λ b e t next. ap next (sym e);
+      bounds_misread = λ b e w. differ {m = 1} {n = 3} refl (ap first_in (w blank read_limits) ∙ ap (λ (x : Limits). first_in (read_limits x)) e);
+      bounds_refused_not = λ w. no_refusal refl refl (w blank read_limits);
       key_read = λ k e t next. ap (λ (cs : List ℕ). next (plain cs)) (sym e);
       key_refused = λ t next. refl;
       key_refused_not = λ w. no_refusal refl refl (w blank (λ m. tell []));
       plain_meant = λ k e. ap plain e;
       robust_meant = λ k e. ap (λ (cs : List ℕ). robust k.mode (plain cs)) e;
       bounded_meant = λ k e. ap (λ (cs : List ℕ). bounded k.mode (limits k.bounds) (plain cs)) e;
-      bounded-robust-meant = λ k e. ap (λ (cs : List ℕ). bounded k.mode (limits k.bounds) (robust k.below.mode (plain cs))) e;
+      bounded_robust_meant = λ k e. ap (λ (cs : List ℕ). bounded k.mode (limits k.bounds) (robust k.below.mode (plain cs))) e;
     }

@@ -54,13 +54,13 @@ named =
       lets_in_no_other = refl;
       in_already = refl;
       endorsement_lets_nobody = refl;
-      others-let-nobody = refl;
+      others_let_nobody = refl;
       takes_off_row = refl;
       refused_takes_nobody = refl;
       had_no_hand = refl;
       keeps_hand = refl;
       release_takes_nobody = refl;
-      others-take-nobody = refl;
+      others_take_nobody = refl;
       none_of = (refl, (refl, tt));
       first_does = λ n. true≢false n.0;
       second_does = λ n. true≢false n.1.0;
@@ -127,13 +127,13 @@ agreed =
       all_settled = (tt, ((λ g b a. absurd (true≢false a)), tt));
       first_unsettled = λ s. seven (s.0 refl refl refl);
       second_unsettled = λ s. seven (s.1.0 refl refl refl);
-      entered-unsettled = λ s. seven (s.1.1.0 refl refl refl);
+      entered_unsettled = λ s. seven (s.1.1.0 refl refl refl);
       settled_late = (tt, ((λ g b a. absurd (false≢true g)), tt));
       lawful = record { joins = λ a b. refl; flow = λ a b f e. refl };
       joins_neither = λ w. false≢true (w.joins (label [] one) (label [] []));
       flow_carries = λ t w a b f e. w.flow a b f e;
       carried_joins = λ c. differ {m = 3} {n = 1} refl (ap (λ (cs : List ℕ). get_or cs 0 0) (c.joins (label [] one) (label [] two)));
-      carried-flow = λ c a b f. c.flow a b f;
+      carried_flow = λ c a b f. c.flow a b f;
     }
   where
     at-record : (i : ℕ) → Alike touched (record_at (holding 7) i) (record_at (holding 8) i)
@@ -162,7 +162,7 @@ promises =
       secret = λ p. p.secrecy 2 (lit< tt) (hidden ∷ []) (refl, tt) (same (Show 0 2));
       shown_elsewhere = λ p. p.secrecy 2 (lit< tt) (hidden ∷ []) (refl, tt) (same (Show 0 1));
       to_the_last = λ p. p.secrecy 65535 (lit< tt) [] tt (same (Close 0));
-      release-secret = λ p. p.secrecy 2 (lit< tt) (hidden ∷ same (Open 0 0) ∷ []) (refl, (refl, tt)) (same (Change Release 0 0 two always));
+      release_secret = λ p. p.secrecy 2 (lit< tt) (hidden ∷ same (Open 0 0) ∷ []) (refl, (refl, tt)) (same (Change Release 0 0 two always));
       lets_in_row = λ n. true≢false n.1.1.0;
       no_secret = one_heard (differ refl) (λ u. u refl);
       may_move = may_move;

@@ -111,9 +111,9 @@ pub record ForC : Type 0 where
   pub group_in_row : group_in (refused 16 (5 ∷ [])) ≡ 5
   pub no_group_in : group_in (granted []) ≡ 0
   pub eight_places : padded (1 ∷ 2 ∷ []) ≡ 1 ∷ 2 ∷ 0 ∷ 0 ∷ 0 ∷ 0 ∷ 0 ∷ 0 ∷ []
-  pub filled-granted :
+  pub filled_granted :
       filled granting 4 ≡ record { kind = 0; question = 0; task = 2; «record» = 5; next = 4; group = 0; count = 1; clauses = 3 ∷ 0 ∷ 0 ∷ 0 ∷ 0 ∷ 0 ∷ 0 ∷ 0 ∷ [] }
-  pub filled-refused :
+  pub filled_refused :
       filled (plain Endorse 7 63 (refused 16 (9 ∷ [])) []) 8
       ≡ record { kind = 1; question = 16; task = 7; «record» = 63; next = 8; group = 9; count = 0; clauses = 0 ∷ 0 ∷ 0 ∷ 0 ∷ 0 ∷ 0 ∷ 0 ∷ 0 ∷ [] }
   pub left_filled : left (entry granting 4) before ≡ filled granting 4

@@ -119,8 +119,8 @@ longest = codes "enter 0005 0 1 " ++ (repeated 815 ++ codes " T")
 abbrev pub word : List ℕ → FormulaWord
 word bytes = Clauses (part bytes)
 
-abbrev pub bounds-words : BoundsWords
-bounds-words = record { mode = Both; high_sight = word (codes "0001"); high_hand = word (codes "0002"); low_sight = True; low_hand = word (codes "0003") }
+abbrev pub bounds_words : BoundsWords
+bounds_words = record { mode = Both; high_sight = word (codes "0001"); high_hand = word (codes "0002"); low_sight = True; low_hand = word (codes "0003") }
 
 abbrev pub plain_words : FormulaWord
 plain_words = word (codes "0002")
@@ -160,8 +160,8 @@ pub record Lines : Type 0 where
   -- the forms that the code holds
   pub plain_said : key_say (Plain plain_words) ≡ plains two
   pub robust_said : key_say (Robust plain_words Both) ≡ robusts Both (plains two)
-  pub bounded_said : key_say (Bounded plain_words bounds-words) ≡ boundeds Both one two [] three (plains two)
-  pub bounded_robust_said : key_say (BoundedRobust plain_words Releases bounds-words) ≡ boundeds Both one two [] three (robusts Releases (plains two))
+  pub bounded_said : key_say (Bounded plain_words bounds_words) ≡ boundeds Both one two [] three (plains two)
+  pub bounded_robust_said : key_say (BoundedRobust plain_words Releases bounds_words) ≡ boundeds Both one two [] three (robusts Releases (plains two))
   pub enter_said : say (Enter 5 1 500 True plain_words) ≡ enters 5 1 500 [] two
   pub open_said : say (Open 2 1) ≡ opens 2 1
   pub close_said : say (Close 2) ≡ closes 2
@@ -173,10 +173,10 @@ pub record Lines : Type 0 where
   pub endorse_said : say (Endorse 2 5 True (Plain plain_words)) ≡ endorses 2 5 [] (plains two)
   pub said : say_in (Some (Close 2)) ≡ Some (closes 2)
   pub said_none : say_in None ≡ None
-  pub bounds-taken : BoundsTaken (codes "de" ∷ codes "0001" ∷ codes "0002" ∷ codes "T" ∷ codes "0003" ∷ codes "x" ∷ []) (Some bounds-words) (codes "x" ∷ [])
-  pub bounds-not-taken : BoundsTaken (codes "de" ∷ codes "0001" ∷ []) None []
-  pub bounds-taken-late : BoundsTaken (codes "de" ∷ codes "0001" ∷ []) (Some bounds-words) [] → ⊥
-  pub bounds-missed : BoundsTaken (codes "de" ∷ codes "0001" ∷ codes "0002" ∷ codes "T" ∷ codes "0003" ∷ []) None [] → ⊥
+  pub bounds_taken : BoundsTaken (codes "de" ∷ codes "0001" ∷ codes "0002" ∷ codes "T" ∷ codes "0003" ∷ codes "x" ∷ []) (Some bounds_words) (codes "x" ∷ [])
+  pub bounds_not_taken : BoundsTaken (codes "de" ∷ codes "0001" ∷ []) None []
+  pub bounds_taken_late : BoundsTaken (codes "de" ∷ codes "0001" ∷ []) (Some bounds_words) [] → ⊥
+  pub bounds_missed : BoundsTaken (codes "de" ∷ codes "0001" ∷ codes "0002" ∷ codes "T" ∷ codes "0003" ∷ []) None [] → ⊥
   pub key_taken : KeyTaken (codes "1" ∷ codes "0002" ∷ codes "de" ∷ codes "x" ∷ []) (Some (Robust plain_words Both)) (codes "x" ∷ [])
   pub key_not_taken : KeyTaken (codes "7" ∷ codes "0002" ∷ []) None []
   pub key_taken_late : KeyTaken (codes "7" ∷ codes "0002" ∷ []) (Some (Plain plain_words)) [] → ⊥
@@ -194,10 +194,10 @@ pub record Read : Type 0 where
   pub label_refused : LabelRead one (replicate 65 1) (Err LongList)
   pub label_refused_first : LabelRead (replicate 65 1) one (Err LongList)
   pub label_refused_not : LabelRead one one (Err LongList) → ⊥
-  pub bounding_words : (t : State) → bounding t bounds-words read_limits ≡ read_limits (record { high = label one two; low = label [] three })
-  pub bounds-read : (b : Bounds) → limits b ≡ record { high = label one two; low = label [] three } → BoundsRead bounds-words (Ok b)
-  pub bounds-misread : (b : Bounds) → limits b ≡ record { high = label [] three; low = label one two } → BoundsRead bounds-words (Ok b) → ⊥
-  pub bounds-refused-not : BoundsRead bounds-words (Err LongList) → ⊥
+  pub bounding_words : (t : State) → bounding t bounds_words read_limits ≡ read_limits (record { high = label one two; low = label [] three })
+  pub bounds_read : (b : Bounds) → limits b ≡ record { high = label one two; low = label [] three } → BoundsRead bounds_words (Ok b)
+  pub bounds_misread : (b : Bounds) → limits b ≡ record { high = label [] three; low = label one two } → BoundsRead bounds_words (Ok b) → ⊥
+  pub bounds_refused_not : BoundsRead bounds_words (Err LongList) → ⊥
   pub key_read : (k : PlainKey) → clauses_of k.formula ≡ one → KeyRead (plains one) (Ok (PlainLine k))
   pub key_refused : KeyRead (plains (replicate 65 1)) (Err LongList)
   pub key_refused_not : KeyRead (plains one) (Err LongList) → ⊥
@@ -205,6 +205,6 @@ pub record Read : Type 0 where
   pub plain_meant : (k : PlainKey) → clauses_of k.formula ≡ one → line_meaning (PlainLine k) ≡ plain one
   pub robust_meant : (k : RobustKey PlainKey) → clauses_of k.below.formula ≡ one → line_meaning (RobustLine k) ≡ robust k.mode (plain one)
   pub bounded_meant : (k : BoundedKey PlainKey) → clauses_of k.below.formula ≡ one → line_meaning (BoundedLine k) ≡ bounded k.mode (limits k.bounds) (plain one)
-  pub bounded-robust-meant :
+  pub bounded_robust_meant :
       (k : BoundedKey (RobustKey PlainKey)) → clauses_of k.below.below.formula ≡ one
       → line_meaning (BoundedRobustLine k) ≡ bounded k.mode (limits k.bounds) (robust k.below.mode (plain one))

@@ -49,7 +49,7 @@ pub record Named : Type 0 where
   pub lets_in_no_other : lets_in 4 (holding 7) (Change Release 0 0 two always) ≡ false
   pub in_already : lets_in 1 (holding 7) (Change Release 0 0 three always) ≡ false
   pub endorsement_lets_nobody : lets_in 2 (holding 7) (Change Endorse 0 0 two always) ≡ false
-  pub others-let-nobody :
+  pub others_let_nobody :
       map (lets_in 2 (holding 7)) (Enter 1 0 1 free ∷ Open 1 0 ∷ Close 0 ∷ Take 0 0 0 ∷ Put 0 0 ∷ Drop 0 0 ∷ Show 0 1 ∷ [])
       ≡ false ∷ false ∷ false ∷ false ∷ false ∷ false ∷ false ∷ []
   -- a granted endorsement takes off who had a hand and has none afterwards
@@ -58,7 +58,7 @@ pub record Named : Type 0 where
   pub had_no_hand : takes_off 4 (holding 7) (Change Endorse 0 0 two always) ≡ false
   pub keeps_hand : takes_off 3 (holding 7) (Change Endorse 0 0 two always) ≡ false
   pub release_takes_nobody : takes_off 1 (holding 7) (Change Release 0 0 two always) ≡ false
-  pub others-take-nobody :
+  pub others_take_nobody :
       map (takes_off 1 (holding 7)) (Enter 1 0 1 free ∷ Open 1 0 ∷ Close 0 ∷ Take 0 0 0 ∷ Put 0 0 ∷ Drop 0 0 ∷ Show 0 1 ∷ [])
       ≡ false ∷ false ∷ false ∷ false ∷ false ∷ false ∷ false ∷ []
   -- no call of a run: the second is asked of what the first leaves
@@ -103,7 +103,7 @@ pub record Agreed : Type 0 where
   pub all_settled : AllSettled handy (holding 7) (holding 8) (same (Show 0 1) ∷ same (Change Endorse 0 0 two always) ∷ [])
   pub first_unsettled : AllSettled handy (holding 7) (holding 8) (same (Change Endorse 0 0 [] always) ∷ []) → ⊥
   pub second_unsettled : AllSettled handy (holding 7) (holding 8) (same (Show 0 1) ∷ same (Change Endorse 0 0 [] always) ∷ []) → ⊥
-  pub entered-unsettled :
+  pub entered_unsettled :
       AllSettled handy blank blank (figures 0 0 7 8 mine (λ h. refl) refl refl ∷ same (Open 0 0) ∷ same (Change Endorse 0 0 [] always) ∷ []) → ⊥
   pub settled_late : AllSettled handy (holding 7) (holding 8) (same (Close 0) ∷ same (Change Endorse 0 0 [] always) ∷ [])
   -- a joined label touches whom either part touches, and flow carries the touch
@@ -111,7 +111,7 @@ pub record Agreed : Type 0 where
   pub joins_neither : Lawful handy → ⊥
   pub flow_carries : (t : Touched) → Lawful t → (a b : Marks) → flows a b ≡ true → t a ≡ true → t b ≡ true
   pub carried_joins : Carried {O = Group} both sight_touches (λ l. l.hand) → ⊥
-  pub carried-flow :
+  pub carried_flow :
       Carried {O = Group} both sight_touches (λ l. l.sight) → (a b : Marks) → flows a b ≡ true → Covered {O = Group} sight_touches a.sight b.sight
 
 -- 0001 enters 7 in one run and 8 in the other, under 0001 / 0001: 0002 sees nothing of it, and 0001 has its hand in it
@@ -146,7 +146,7 @@ pub record Promises : Type 0 where
   pub secret : Promise → Matches 2 (Show 0 2) (answer (run blank (Enter 0 0 7 mine ∷ [])) (Show 0 2)) (answer (run blank (Enter 0 0 8 mine ∷ [])) (Show 0 2))
   pub shown_elsewhere : Promise → Matches 2 (Show 0 1) (granted (7 ∷ [])) (granted (8 ∷ []))
   pub to_the_last : Promise → Matches 65535 (Close 0) (refused 5 []) (refused 5 [])
-  pub release-secret :
+  pub release_secret :
       Promise → Matches 2 (Change Release 0 0 two always) (answer (run blank (Enter 0 0 7 mine ∷ Open 0 0 ∷ [])) (Change Release 0 0 two always))
       (answer (run blank (Enter 0 0 8 mine ∷ Open 0 0 ∷ [])) (Change Release 0 0 two always))
   -- afterwards the figure differs for it, so that secrecy has to say "until"
@@ -161,7 +161,7 @@ pub record Promises : Type 0 where
   -- influence: what 0001 enters moves no record in which it has no hand
   pub unmoved : Promise → Unmoved 1 (run blank (Enter 0 0 7 mine ∷ [])) (run blank (Enter 0 0 8 mine ∷ []))
   pub unmoved_to_the_last : Promise → Unmoved 65535 blank blank
-  -- and a robust release that lets 0002 in shows it one figure, whatever 0002 entered entered-apart
+  -- and a robust release that lets 0002 in shows it one figure, whatever 0002 entered
   pub unsteered : Promise → ShowsOne 2 0 (run blank (lefts entered_apart)) (run blank (rights entered_apart)) (Change Release 0 0 two robustly)
   -- after the endorsement the record is without its hand and differs, so that influence has to say "until"
   pub takes_off_row : NoneOf (takes_off 1) blank (lefts taken) → ⊥

@@ -15,7 +15,7 @@ use Rattle.label.proofs.Order.{flows_by_groups}
 use Rattle.key.specs.declared.mode.Mode.{Mode}
 use Rattle.key.specs.Requests.{Asked, Limits}
 use Rattle.key.specs.Meanings.{Verdict, Meaning, grant, passing, plain_covers, covers, gains, steers, steers_kind, unless_steered, robust, bounded}
-use Rattle.key.specs.Laws.{Everybody, SteersKind, PlainGrants, Plain-law, Robust-law, CoveredByBoth, BelowHigh, Bounded-law, KeyLaws, itself, wrapped, elsewhere, ReleasesRobustly, OverRobustLaw}
+use Rattle.key.specs.Laws.{Everybody, SteersKind, PlainGrants, PlainLaw, RobustLaw, CoveredByBoth, BelowHigh, BoundedLaw, KeyLaws, itself, wrapped, elsewhere, ReleasesRobustly, OverRobustLaw}
 
 -- a denial is no grant
 never : (d : Denial) {X : Type 0} → Err d ≡ grant → X
@@ -85,7 +85,7 @@ covered_decides l a b =
     (Decides-and (within (unseeing l) (λ g. unseeing a g || unseeing b g)) (within (handed l) (λ g. handed a g || handed b g))
     (within_decides (unseeing l) (λ g. unseeing a g || unseeing b g)) (within_decides (handed l) (λ g. handed a g || handed b g)))
 
-plain_law : (f : List ℕ) (r : Asked) → Plain-law f r
+plain_law : (f : List ℕ) (r : Asked) → PlainLaw f r
 plain_law f r =
     let d = plain_decides f r.kind r in
     record {
@@ -93,7 +93,7 @@ plain_law f r =
       denies = λ n. cond-false (plain_covers f r.kind r) grant (Err NotCovered) (not_true (plain_covers f r.kind r) (λ e. n (d.0 e)));
     }
 
-robust_law : (m : Mode) (below : Meaning) (r : Asked) → Robust-law m below r
+robust_law : (m : Mode) (below : Meaning) (r : Asked) → RobustLaw m below r
 robust_law m below r =
     let d = steers_decides r.kind r in
     record {
@@ -113,7 +113,7 @@ robust_law m below r =
           rw (b, c, n) refl;
     }
 
-bounded_law : (m : Mode) (b : Limits) (below : Meaning) (r : Asked) → Bounded-law m b below r
+bounded_law : (m : Mode) (b : Limits) (below : Meaning) (r : Asked) → BoundedLaw m b below r
 bounded_law m b below r =
     let hi = high_decides b r in
     let new = relabelled r.kind r.held r.new in

@@ -43,13 +43,13 @@ PlainGrants f Release r = Everybody (λ g. Meets f g → Meets r.new g → Sees 
 PlainGrants f Endorse r = Everybody (λ g. Meets f g → HasHand r.held g → Meets r.new g)
 
 -- a plain key grants exactly that, and else denies as not covered
-pub record Plain-law (f : List ℕ) (r : Asked) : Type 0 where
+pub record PlainLaw (f : List ℕ) (r : Asked) : Type 0 where
   pub grants : (plain f r ≡ grant) ↔ PlainGrants f r.kind r
   pub denies : (PlainGrants f r.kind r → ⊥) → plain f r ≡ Err NotCovered
 
 -- a robust wrap grants exactly when the key below does, its mode covers the kind, and no group steers;
 -- where only the last fails, it names the lowest-numbered such group
-pub record Robust-law (m : Mode) (below : Meaning) (r : Asked) : Type 0 where
+pub record RobustLaw (m : Mode) (below : Meaning) (r : Asked) : Type 0 where
   pub passes : (d : Denial) → below r ≡ Err d → robust m below r ≡ Err d
   pub outside : below r ≡ grant → covers m r.kind ≡ false → robust m below r ≡ Err OutsideMode
   pub grants : (robust m below r ≡ grant) ↔ ((below r ≡ grant) × (covers m r.kind ≡ true) × Nobody (Steers r))
@@ -69,7 +69,7 @@ BelowHigh b r = Flows r.held b.high × Flows r.task b.high
 abbrev pub AboveLow : Limits → Asked → Type 0
 AboveLow b r = CoveredByBoth b.low (relabelled r.kind r.held r.new) r.task
 
-pub record Bounded-law (m : Mode) (b : Limits) (below : Meaning) (r : Asked) : Type 0 where
+pub record BoundedLaw (m : Mode) (b : Limits) (below : Meaning) (r : Asked) : Type 0 where
   pub passes : (d : Denial) → below r ≡ Err d → bounded m b below r ≡ Err d
   pub outside : below r ≡ grant → covers m r.kind ≡ false → bounded m b below r ≡ Err OutsideMode
   pub high : below r ≡ grant → covers m r.kind ≡ true → (BelowHigh b r → ⊥) → bounded m b below r ≡ Err AboveHigh
@@ -78,9 +78,9 @@ pub record Bounded-law (m : Mode) (b : Limits) (below : Meaning) (r : Asked) : T
 
 -- over every key, on every request
 pub record KeyLaws : Type 0 where
-  pub plain : (f : List ℕ) (r : Asked) → Plain-law f r
-  pub robust : (m : Mode) (below : Meaning) (r : Asked) → Robust-law m below r
-  pub bounded : (m : Mode) (b : Limits) (below : Meaning) (r : Asked) → Bounded-law m b below r
+  pub plain : (f : List ℕ) (r : Asked) → PlainLaw f r
+  pub robust : (m : Mode) (below : Meaning) (r : Asked) → RobustLaw m below r
+  pub bounded : (m : Mode) (b : Limits) (below : Meaning) (r : Asked) → BoundedLaw m b below r
 
 -- each release that the key grants lets in no group with a hand in the record or in the task
 abbrev pub ReleasesRobustly : Meaning → Type 0

@@ -45,20 +45,20 @@ first_either P Q (Some x) (Some y) f s =
         (record { parties = s.parties; holds = inr s.holds; least = λ k l e. elim e [ inl p ↦ f.least k (omega (arith, l, h)) p | inr q ↦ s.least k l q ] })
 
 -- a group that misses one of the first i clauses
-pub record Missing-in (missed needs more : List ℕ) (i : ℕ) (g : ℕ) : Type 0 where
+pub record MissingIn (missed needs more : List ℕ) (i : ℕ) (g : ℕ) : Type 0 where
   pub meets : Meets needs g × Meets more g
   pub place : ℕ
   pub early : place < i
   pub misses : bit_and (get_or missed place 0) g ≡ 0
 
 module _ (missed needs more : List ℕ) where
-  pub missing_none : First (Missing-in missed needs more 0) None
+  pub missing_none : First (MissingIn missed needs more 0) None
   missing_none g h m = omega (arith, m.early)
 
-  pub missing_more : (i : ℕ) → get_or missed i 0 < 65536 → (a b : Option ℕ) → First (Missing-in missed needs more i) a → First (Fitting (65535 - get_or missed i 0) needs more) b → First (Missing-in missed needs more (i + 1)) (earlier a b)
+  pub missing_more : (i : ℕ) → get_or missed i 0 < 65536 → (a b : Option ℕ) → First (MissingIn missed needs more i) a → First (Fitting (65535 - get_or missed i 0) needs more) b → First (MissingIn missed needs more (i + 1)) (earlier a b)
   missing_more i fits a b f s =
       let c : ℕ = get_or missed i 0 in
-      first_same (λ g. Missing-in missed needs more i g ⊎ Fitting (65535 - c) needs more g) (Missing-in missed needs more (i + 1))
+      first_same (λ g. MissingIn missed needs more i g ⊎ Fitting (65535 - c) needs more g) (MissingIn missed needs more (i + 1))
       (λ g h e. elim e [
         | inl m ↦ record { meets = m.meets; place = m.place; early = omega (arith, m.early); misses = m.misses }
         | inr m ↦ record {
@@ -73,11 +73,11 @@ module _ (missed needs more : List ℕ) where
         | inr o ↦ inl (record { meets = m.meets; place = m.place; early = elim o [ inl l ↦ l | inr l ↦ omega (arith, m.early, l) ]; misses = m.misses })
       ])
       (earlier a b)
-      (first_either (Missing-in missed needs more i) (Fitting (65535 - c) needs more) a b f s)
+      (first_either (MissingIn missed needs more i) (Fitting (65535 - c) needs more) a b f s)
 
-  pub missing_all : (i : ℕ) → i ≡ length missed → (o : Option ℕ) → First (Missing-in missed needs more i) o → First (Missing missed needs more) o
+  pub missing_all : (i : ℕ) → i ≡ length missed → (o : Option ℕ) → First (MissingIn missed needs more i) o → First (Missing missed needs more) o
   missing_all i e o f =
-      first_same (Missing-in missed needs more i) (Missing missed needs more)
+      first_same (MissingIn missed needs more i) (Missing missed needs more)
       (λ g h m. record { meets = m.meets; misses = λ all. All-get_or (λ c. Shares c g) missed m.place 0 (omega (arith, m.early, e)) all m.misses })
       (λ g h m. elim (found missed g) [
         | inl all ↦ absurd (m.misses all)

@@ -134,12 +134,12 @@ module _ (touched : Touched) {t u : State} (w : Low touched t u) (kind : Kind) (
   changed_by l r n n' e (Ok _) h =
       low_fills touched w i (filled (relabelled kind r f) n n' (λ c. elim (cases_Bool (touched r)) [ inl x ↦ h refl x c | inr x ↦ e x ]))
 
-  abbrev Change-at : State → Place → Place → Ruled
-  Change-at v s r = on_held v 5 s (λ a l. on_held v 6 r (λ n m. by_key v (key (request_for kind m f l)) (done (with_record v i (holds n (relabelled kind m f))))))
+  abbrev change_at : State → Place → Place → Ruled
+  change_at v s r = on_held v 5 s (λ a l. on_held v 6 r (λ n m. by_key v (key (request_for kind m f l)) (done (with_record v i (holds n (relabelled kind m f))))))
 
   changed_at : {s s' r r' : Place} → Alike touched s s' → Alike touched r r'
-      → (is_granted (Change-at t s r).answer ≡ true → touched (label_of r) ≡ true → touched (relabelled kind (label_of r) f) ≡ false → figure_of r ≡ figure_of r')
-      → LowRuled touched Equal (Change-at t s r) (Change-at u s' r')
+      → (is_granted (change_at t s r).answer ≡ true → touched (label_of r) ≡ true → touched (relabelled kind (label_of r) f) ≡ false → figure_of r ≡ figure_of r')
+      → LowRuled touched Equal (change_at t s r) (change_at u s' r')
   changed_at empty y h = low_refuse touched Equal (λ _. refl) w 5
   changed_at (filled l a a' e) empty h = low_refuse touched Equal (λ _. refl) w 6
   changed_at (filled l a a' e) (filled r n n' e') h = changed_by l r n n' e' (key (request_for kind r f l)) h

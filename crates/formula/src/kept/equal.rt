@@ -6,6 +6,7 @@ ghost use Rattle.std.specs.Ordering.{on};
 ghost use Rattle.std.proofs.Common.{rules};
 ghost use Rattle.clause.specs.Meaning.{Alike};
 ghost use Rattle.formula.specs.Of.{clauses_of};
+ghost use Rattle.formula.specs.Equal.{EqualityIsMeaning};
 
 use super::Formula;
 
@@ -32,3 +33,8 @@ impl PartialEq for Formula {
         self.same_clauses(other)
     }
 }
+
+/// What `==` and `!=` tell of two formulas. A caller of `!=`, whose contract is the library's, learns it here.
+pub fn equality_is_meaning()
+    ensures { EqualityIsMeaning }
+{}
