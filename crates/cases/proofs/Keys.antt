@@ -37,6 +37,7 @@ answering =
       keeps_hand = refl;
       not_in_task = refl;
       not_in_record = refl;
+      in_record_alone = refl;
     }
 
 put : Put
@@ -84,6 +85,7 @@ stated =
       keeps_hand = λ s. s.1 (differ refl, tt);
       not_in_task = λ s. s.0.0.0 refl;
       not_in_record = λ s. s.0.1.0 refl;
+      in_record_alone = λ s. s.0.0.0 refl;
       covers_release = λ g h p n. (p.0, n);
       covers_endorsement = λ g h p o. (p.0, o);
       short_release = short;

@@ -25,6 +25,10 @@ narrowing = endorse (label [] three) one (label [] two)
 abbrev pub foreign : Asked
 foreign = endorse (label [] four) one (label [] two)
 
+-- the record's hand, 0001 or 0002, becomes 0002, who alone has a hand in the task
+abbrev pub losing : Asked
+losing = endorse (label [] three) two (label [] two)
+
 abbrev pub always : Meaning
 always r = grant
 
@@ -61,6 +65,7 @@ pub record Answering : Type 0 where
   pub keeps_hand : steers narrowing 3 ≡ false
   pub not_in_task : steers narrowing 4 ≡ false
   pub not_in_record : steers foreign 2 ≡ false
+  pub in_record_alone : steers losing 1 ≡ false
 
 -- what a request and a wrap's bounds hold
 pub record Put : Type 0 where
@@ -91,6 +96,7 @@ pub record Stated : Type 0 where
   pub keeps_hand : Steers narrowing 3 → ⊥
   pub not_in_task : Steers narrowing 4 → ⊥
   pub not_in_record : Steers foreign 2 → ⊥
+  pub in_record_alone : Steers losing 1 → ⊥
   -- the privilege makes up for what the new sight does not ask, or the new hand asks
   pub covers_release : PlainGrants one Release (release (label one_two []) two (label [] []))
   pub covers_endorsement : PlainGrants one Endorse (endorse (label [] two) one_two (label [] []))
