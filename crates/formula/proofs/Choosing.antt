@@ -47,7 +47,7 @@ chosen_fits list clauses n fits empty ch i =
       | inr h ↦ omega (arith, empty i h)
     ]
 
-low : (xs : List ℕ) (n : ℕ) → Sixteen xs → Sixteen (take n xs)
+pub low : (xs : List ℕ) (n : ℕ) → Sixteen xs → Sixteen (take n xs)
 low xs n f k =
     elim (cases_lt k n) [
       | inl h ↦ omega (arith, get_or-take n xs k 0 h, f k)

@@ -2,3 +2,4 @@ pub mod Choosing
 pub mod Gathering
 pub mod Forming
 pub mod Keeping
+pub mod Printing

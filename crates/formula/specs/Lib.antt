@@ -4,3 +4,4 @@ pub mod Of
 pub mod Forms
 pub mod Keeping
 pub mod Equal
+pub mod Text

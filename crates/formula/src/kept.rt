@@ -4,6 +4,7 @@ mod join;
 mod keep;
 mod reduce;
 mod simple;
+mod text;
 
 ghost use Rattle.std.specs.Prelude.{◌≤◌};
 ghost use Rattle.formula.specs.Kept.{Unused, Rising, Apart, Sixteen};

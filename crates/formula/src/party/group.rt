@@ -1,22 +1,27 @@
-ghost use Rattle.std.specs.Prelude.{◌≡◌, ◌<◌, ◌≤◌, MatchOption};
-ghost use Rattle.formula.specs.Party.{alone};
+ghost use Rattle.std.specs.Prelude.{◌≡◌};
+ghost use Rattle.formula.specs.Party.{alone, PartyOf};
 
 use super::Party;
+use answer::Refusal;
 
-impl Party {
-    /// The party of that number, if there is one.
-    pub fn new(number: u64) -> Option<Party>
-        ensures { MatchOption result (16 ≤ number) (λ p. (p.number ≡ number) × (number < 16)) }
-    {
+/// The party of that number, if there is one.
+impl TryFrom<u64> for Party {
+    type Error = Refusal;
+
+    ghost try_from_gives = { PartyOf };
+
+    fn try_from(number: u64) -> Result<Party, Refusal> {
         if number < 16 {
-            Some(Party {
+            Ok(Party {
                 number: number as u8,
             })
         } else {
-            None
+            Err(Refusal::NoSuchNumber)
         }
     }
+}
 
+impl Party {
     /// The group of this party alone.
     pub fn alone(self) -> u16
         ensures { result ≡ alone self.number }
