@@ -90,7 +90,7 @@ fn implying(rt: HostRuntime) -> Result<(), Fail> {
     };
     assert!(rt; and == both);
     assert!(rt; or == either);
-    let Some(party) = Party::new(1) else {
+    let Ok(party) = Party::try_from(1) else {
         return Err(Fail::new("no party"));
     };
     assert!(rt; Formula::one_party(party) == two);

@@ -22,9 +22,7 @@ impl Monitor {
         ensures answer { says nothing result ≡ (entering (view self.old.tables) «record» party figure (labelled label)).answer }
         ensures after { view self.new.tables ≡ (entering (view self.old.tables) «record» party figure (labelled label)).state }
     {
-        let Some(party) = Party::new(party) else {
-            return Err(Refusal::NoSuchNumber);
-        };
+        let party = Party::try_from(party)?;
         if record >= RECORDS as u64 {
             return Err(Refusal::NoSuchNumber);
         }

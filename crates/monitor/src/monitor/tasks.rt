@@ -26,9 +26,7 @@ impl Monitor {
         ensures answer { says nothing result ≡ (opening (view self.old.tables) task party).answer }
         ensures after { view self.new.tables ≡ (opening (view self.old.tables) task party).state }
     {
-        let Some(party) = Party::new(party) else {
-            return Err(Refusal::NoSuchNumber);
-        };
+        let party = Party::try_from(party)?;
         if task >= TASKS as u64 {
             return Err(Refusal::NoSuchNumber);
         }
