@@ -1,10 +1,13 @@
 -- The rows of formulas hold.
-use Rattle.std.proofs.Common.{ℕ, zero, suc, ◌<◌, List, [], ◌∷◌, get_or, take, Some, sym, refl, ap, subst, ap₂, arith, lit<, lit≤}
+use Rattle.std.proofs.Common.{◌≡◌, ◌≤◌, ◌∙◌, ℕ, zero, suc, ◌<◌, List, [], ◌∷◌, get_or, take, Some, sym, refl, ap, subst, ap₂, arith, lit<, lit≤}
 use lib.Bits.{bit_and}
+use Rattle.answer.specs.declared.Refusal.{Refusal}
+use Rattle.answer.specs.declared.Answer.TheVariants.{Refused}
+use Rattle.answer.specs.Told.{told, question_of}
 use Rattle.clause.specs.Meaning.{Meets, Means}
 use Rattle.formula.specs.Kept.{Unused, Sixteen}
 use Rattle.cases.specs.Table.{one_two}
-use Rattle.cases.specs.Formulas.{eight, Sized, KeptForms, HeldForms, Formulas}
+use Rattle.cases.specs.Formulas.{eight, Sized, KeptForms, HeldForms, Shown, Formulas}
 use Rattle.cases.proofs.Apart.{differ}
 
 sized : Sized
@@ -86,5 +89,22 @@ held_forms =
       at_one = λ e. absurd (differ {m = 1} {n = 2} refl e);
     }
 
+shown : Shown
+shown =
+    record {
+      last_party = λ p e. (e, lit< tt);
+      another_party = λ p e n. differ {m = 14} {n = 15} refl (sym e ∙ n.0);
+      no_sixteenth = λ p n. let h : 16 < 16 = n.1 in omega arith;
+      sixteen_refused = (refl, lit≤ tt);
+      at_three_only = λ n. let q : 4 ≡ 3 = ap number n.0 in omega arith;
+      fifteen_not_refused = λ n. let h : 16 ≤ 15 = n.1 in omega arith;
+      truth_printed = refl;
+      one_printed = refl;
+      two_printed = refl;
+    }
+  where
+    number : Refusal → ℕ
+    number q = question_of (told (Refused q))
+
 pub formulas : Formulas
-formulas = record { sized = sized; kept_forms = kept_forms; held_forms = held_forms }
+formulas = record { sized = sized; kept_forms = kept_forms; held_forms = held_forms; shown = shown }

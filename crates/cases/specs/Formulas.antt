@@ -1,15 +1,17 @@
 -- Formulas: their sizes, their kept forms, and what a refusal at 2 says.
-use Rattle.std.specs.Prelude.{◌≡◌, ℕ, ◌≤◌, true, false, List, [], ◌∷◌, length, replicate, Some, None, Ok, Err}
-use Rattle.answer.specs.declared.Refusal.TheVariants.{LongList, LargeFormula}
+use Rattle.std.specs.Prelude.{◌≡◌, ℕ, ◌≤◌, true, false, List, [], ◌∷◌, length, replicate, Some, None, Ok, Err, codes}
+use Rattle.answer.specs.declared.Refusal.TheVariants.{LongList, LargeFormula, NoSuchNumber, LargeFigure}
 use Rattle.answer.specs.Told.{granted, refused}
 use Rattle.clause.specs.Meaning.{Meets}
 use Rattle.clause.specs.Reduced.{reduced}
 use Rattle.formula.specs.declared.kept.Formula.{Formula}
+use Rattle.formula.specs.declared.party.Party.{Party}
 use Rattle.formula.specs.Kept.{Unused, Rising, Apart, Sixteen}
 use Rattle.formula.specs.Of.{clauses_of}
-use Rattle.formula.specs.Party.{alone}
+use Rattle.formula.specs.Party.{alone, PartyOf}
 use Rattle.formula.specs.Forms.{fits, fitting, reduces, both, either, Formed}
 use Rattle.formula.specs.Keeping.{apart, apart_all, ordered, kept, keeping, clauses_in, KeptIsReduced}
+use Rattle.formula.specs.Text.{formula_text}
 use Rattle.cases.specs.Table.{one, two, three, one_two}
 
 abbrev pub eight : List ℕ
@@ -76,7 +78,20 @@ pub record HeldForms : Type 0 where
   pub needless : Formed (Meets eight) (Err LargeFormula) → ⊥
   pub at_one : Formed (λ g. Unit {0}) (Err LongList)
 
+-- the party of a number, and what is printed of a formula
+pub record Shown : Type 0 where
+  pub last_party : (p : Party) → p.number ≡ 15 → PartyOf 15 (Ok p)
+  pub another_party : (p : Party) → p.number ≡ 14 → PartyOf 15 (Ok p) → ⊥
+  pub no_sixteenth : (p : Party) → PartyOf 16 (Ok p) → ⊥
+  pub sixteen_refused : PartyOf 16 (Err NoSuchNumber)
+  pub at_three_only : PartyOf 16 (Err LargeFigure) → ⊥
+  pub fifteen_not_refused : PartyOf 15 (Err NoSuchNumber) → ⊥
+  pub truth_printed : formula_text [] ≡ codes "T"
+  pub one_printed : formula_text (40639 ∷ []) ≡ codes "9ebf"
+  pub two_printed : formula_text (1 ∷ 2 ∷ []) ≡ codes "0001.0002"
+
 pub record Formulas : Type 0 where
   pub sized : Sized
   pub kept_forms : KeptForms
   pub held_forms : HeldForms
+  pub shown : Shown
