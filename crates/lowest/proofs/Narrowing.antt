@@ -1,5 +1,5 @@
 -- Leaving out one party after another, from the highest down.
-use Rattle.std.proofs.Common.{◌≡◌, ℕ, zero, suc, ◌+◌, ◌-◌, ◌*◌, ◌/◌, ◌%◌, ◌^◌, ◌<◌, ◌≤◌, sym, ap, ◌∙◌, inl, inr, add-mul, pow-suc, zero-mul, arith}
+use Rattle.std.proofs.Common.{◌≡◌, ℕ, zero, suc, ◌+◌, ◌-◌, ◌*◌, ◌/◌, ◌%◌, ◌^◌, ◌<◌, ◌≤◌, sym, ap, ◌∙◌, subst, inl, inr, add-mul, pow-suc, zero-mul, arith}
 use lib.Bits.{bit_and, and_step, and_high, and_comm, and_self, and_le_l}
 use Rattle.std.proofs.lemmas.Nat.{shr_high, shr-shr, shr_split, pow_pos, pow_below, pow-add, mod_below}
 use Rattle.std.proofs.lemmas.Bool.{cases_eq}
@@ -77,15 +77,16 @@ module _ (allowed : ℕ) (P : ℕ → Type 0) where
   narrow_start h p =
       record { small = h; inside = and_self allowed; holds = p; least = λ g l i m. omega arith; within = λ g l i e. i }
 
-  pub narrow_end : (group : ℕ) → Narrowed 0 group → (g : ℕ) → g < group → Part g allowed → P g → ⊥
-  narrow_end group n g l i p = omega (arith, n.least g (omega (arith, n.small)) i p)
+  pub narrow_end : (k group : ℕ) → k ≤ 0 → Narrowed k group → (g : ℕ) → g < group → Part g allowed → P g → ⊥
+  narrow_end k group none n g l i p =
+      let all : Narrowed 0 group = subst (λ j. Narrowed j group) (omega arith) n in omega (arith, all.least g (omega (arith, n.small)) i p)
 
   module _ (grows : (g other : ℕ) → g < 65536 → Part g other → P g → P other) (group k : ℕ) (l : k < 16) (n : Narrowed (k + 1) group) where
     same-high : (g : ℕ) → g / 2 ^ k / 2 ≡ group / 2 ^ k / 2 → g / 2 ^ (k + 1) ≡ group / 2 ^ (k + 1)
     same-high g e = half g k ∙ e ∙ sym (half group k)
 
-    pub narrow-leave : P (without group k) → Narrowed k (without group k)
-    narrow-leave p =
+    leave : P (without group k) → Narrowed k (without group k)
+    leave p =
         let high = without_high group k n.small l in
         record {
           small = omega (arith, and_le_l group (65535 - 2 ^ k), n.small);
@@ -95,8 +96,8 @@ module _ (allowed : ℕ) (P : ℕ → Type 0) where
           within = λ g h i e. without_holds g group k h l (n.within g h i (same-high g (omega (arith, e, high)))) (omega (arith, e, high));
         }
 
-    pub narrow-stay : (P (without group k) → ⊥) → Narrowed k group
-    narrow-stay none =
+    stay : (P (without group k) → ⊥) → Narrowed k group
+    stay none =
         record {
           small = n.small;
           inside = n.inside;
@@ -111,3 +112,14 @@ module _ (allowed : ℕ) (P : ℕ → Type 0) where
               ];
           within = λ g h i e. n.within g h i (same-high g (ap (λ x. x / 2) e));
         }
+
+  -- the party below k: left out where P holds of the rest
+  module _ (grows : (g other : ℕ) → g < 65536 → Part g other → P g → P other) (group k rest : ℕ) (some : 0 < k) (most : k ≤ 16) (n : Narrowed k group) (is : rest ≡ without group (k - 1)) where
+    before : Narrowed (k - 1 + 1) group
+    before = subst (λ j. Narrowed j group) (omega arith) n
+
+    pub left_out : P rest → Narrowed (k - 1) rest
+    left_out p = subst (Narrowed (k - 1)) (sym is) (leave grows group (k - 1) (omega arith) before (subst P is p))
+
+    pub kept_in : (P rest → ⊥) → Narrowed (k - 1) group
+    kept_in none = stay grows group (k - 1) (omega arith) before (λ p. none (subst P (sym is) p))

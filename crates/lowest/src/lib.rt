@@ -23,9 +23,7 @@ fn lowest_within(allowed: u16, needs: &[u16], more: &[u16]) -> Option<u16>
         return None;
     }
     let mut group = allowed;
-    let mut party: u32 = 16;
-    while party > 0 {
-        party -= 1;
+    for party in (0..16).rev() {
         let rest = without(group, party);
         if clause::meets_both(needs, more, rest) {
             group = rest;
@@ -39,9 +37,8 @@ pub fn earlier(a: Option<u16>, b: Option<u16>) -> Option<u16>
     ensures { result ≡ earlier_of a b }
 {
     match (a, b) {
-        (None, other) => other,
-        (other, None) => other,
         (Some(x), Some(y)) => Some(x.min(y)),
+        _ => a.or(b),
     }
 }
 
