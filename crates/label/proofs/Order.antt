@@ -1,23 +1,29 @@
 -- The order of labels, group by group.
-use Rattle.std.proofs.Common.{ℕ, ◌<◌, inl, inr}
+use Rattle.std.proofs.Common.{◌||◌, Decides, inl, inr}
 use Rattle.std.proofs.lemmas.Bool.Decides.{Decides-and, Decides-like}
-use Rattle.clause.specs.Meaning.{Meets}
 use Rattle.clause.specs.Groups.{within}
 use Rattle.formula.proofs.Forming.{means_both, means_either}
-use Rattle.label.specs.Labels.{Marks, unseeing, handed, flows, join}
+use Rattle.label.specs.Marks.{Covered, CoveredByTwo, sight_touches, hand_touches}
+use Rattle.label.specs.Labels.{Marks, unseeing, handed, flows, covered, join}
 use Rattle.label.specs.Order.{FlowsByGroups, FlowsOrder, JoinLeast}
 use Rattle.label.specs.Tests.{covered_within, sight_uncovered, hand_uncovered}
 
--- what a label's flow to another says of groups
-abbrev Flowing : Marks → Marks → Type 0
-Flowing a b = (g : ℕ) → g < 65536 → (Meets b.sight g → Meets a.sight g) × (Meets a.hand g → Meets b.hand g)
+-- a label flows to another where each mark is covered
+pub flows_decides : (a b : Marks) → Decides (flows a b) (Covered sight_touches a.sight b.sight × Covered hand_touches a.hand b.hand)
+flows_decides a b =
+    Decides-and (within (unseeing a) (unseeing b)) (within (handed a) (handed b)) (covered_within (unseeing a) (unseeing b)) (covered_within (handed a) (handed b))
+
+pub covered_decides : (l a b : Marks) → Decides (covered l a b) (CoveredByTwo sight_touches l.sight a.sight b.sight × CoveredByTwo hand_touches l.hand a.hand b.hand)
+covered_decides l a b =
+    Decides-and (within (unseeing l) (λ g. unseeing a g || unseeing b g)) (within (handed l) (λ g. handed a g || handed b g))
+    (covered_within (unseeing l) (λ g. unseeing a g || unseeing b g)) (covered_within (handed l) (λ g. handed a g || handed b g))
 
 pub flows_by_groups : FlowsByGroups
 flows_by_groups a b =
     Decides-like (flows a b)
     (λ h g l. ((sight_uncovered a.sight b.sight).0 h.0 g l, (hand_uncovered a.hand b.hand).0 h.1 g l))
     (λ h. ((sight_uncovered a.sight b.sight).1 (λ g l. (h g l).0), (hand_uncovered a.hand b.hand).1 (λ g l. (h g l).1)))
-    (Decides-and (within (unseeing a) (unseeing b)) (within (handed a) (handed b)) (covered_within (unseeing a) (unseeing b)) (covered_within (handed a) (handed b)))
+    (flows_decides a b)
 
 pub flows_order : FlowsOrder
 flows_order =

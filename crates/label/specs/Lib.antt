@@ -1,5 +1,4 @@
 pub mod Marks
 pub mod Labels
 pub mod Order
-pub mod Sides
 pub mod Tests

@@ -74,17 +74,24 @@ sight_covered r s t d = Decides-like r (sight_uncovered s t).1 (sight_uncovered 
 pub hand_covered : (r : Bool) (s t : List ℕ) → Decides r (Implies s t) → Decides r (Covered hand_touches s t)
 hand_covered r s t d = Decides-like r (hand_uncovered s t).1 (hand_uncovered s t).0 d
 
+pub sight_two_uncovered : (s a b : List ℕ) → CoveredByTwo sight_touches s a b ↔ BothImply a b s
+sight_two_uncovered s a b = (
+  λ h g l m n. (met_decides s g).0 (back_two (met s g) (met a g) (met b g) (h (g, l)) ((met_decides a g).1 m) ((met_decides b g).1 n)),
+  λ h o. turned_two (met s o.0) (met a o.0) (met b o.0) (λ e f. (met_decides s o.0).1 (h o.0 o.1 ((met_decides a o.0).0 e) ((met_decides b o.0).0 f))),
+)
+
+pub hand_two_uncovered : (s a b : List ℕ) → CoveredByTwo hand_touches s a b ↔ ImpliesEither s a b
+hand_two_uncovered s a b =
+    let either : (g : ℕ) → Decides (met a g || met b g) (Meets a g ⊎ Meets b g) = λ g. Decides-or (met a g) (met b g) (met_decides a g) (met_decides b g) in (
+      λ h g l m. (either g).0 (h (g, l) ((met_decides s g).1 m)),
+      λ h o e. (either o.0).1 (h o.0 o.1 ((met_decides s o.0).0 e)),
+    )
+
 pub sight_two : (r : Bool) (s a b : List ℕ) → Decides r (BothImply a b s) → Decides r (CoveredByTwo sight_touches s a b)
-sight_two r s a b d =
-    Decides-like r
-    (λ h o. turned_two (met s o.0) (met a o.0) (met b o.0) (λ e f. (met_decides s o.0).1 (h o.0 o.1 ((met_decides a o.0).0 e) ((met_decides b o.0).0 f))))
-    (λ h g l m n. (met_decides s g).0 (back_two (met s g) (met a g) (met b g) (h (g, l)) ((met_decides a g).1 m) ((met_decides b g).1 n))) d
+sight_two r s a b d = Decides-like r (sight_two_uncovered s a b).1 (sight_two_uncovered s a b).0 d
 
 pub hand_two : (r : Bool) (s a b : List ℕ) → Decides r (ImpliesEither s a b) → Decides r (CoveredByTwo hand_touches s a b)
-hand_two r s a b d =
-    Decides-like r
-    (λ h o e. (Decides-or (met a o.0) (met b o.0) (met_decides a o.0) (met_decides b o.0)).1 (h o.0 o.1 ((met_decides s o.0).0 e)))
-    (λ h g l m. (Decides-or (met a g) (met b g) (met_decides a g) (met_decides b g)).0 (h (g, l) ((met_decides s g).1 m))) d
+hand_two r s a b d = Decides-like r (hand_two_uncovered s a b).1 (hand_two_uncovered s a b).0 d
 
 -- what is covered of all onlookers is within, group by group
 pub covered_within : (p q : ℕ → Bool) → Decides (within p q) ((o : Group) → p o.0 ≡ true → q o.0 ≡ true)

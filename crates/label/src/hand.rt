@@ -23,6 +23,8 @@ impl Hand {
         self.0.meets(group)
     }
 
+    // Apart from the trait's methods, so that a wrong comparison is refused here, and not in a proof of theirs.
+
     /// Tells whether every group with a hand by this has one by `other`.
     fn kept_by(&self, other: &Hand) -> bool
         ensures { Decides result (Implies (clauses_of self.now.0) (clauses_of other.now.0)) }
@@ -62,12 +64,7 @@ impl Join for Hand {
     ghost either = { hand_either };
 
     fn join(&self, other: &Hand, out: &mut Hand) -> Result<(), Refusal> {
-        match self.0.or(other.0) {
-            Ok(joined) => {
-                out.0 = joined;
-                Ok(())
-            }
-            Err(_) => Err(Refusal::LargeLabel),
-        }
+        out.0 = self.0.or(other.0).map_err(|_| Refusal::LargeLabel)?;
+        Ok(())
     }
 }

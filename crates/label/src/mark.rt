@@ -1,7 +1,5 @@
-ghost use Rattle.std.specs.Prelude.{◌≡◌, ℕ, Bool, true, false, List, [], Decides, MatchResult};
-ghost use Rattle.answer.specs.declared.Answer.TheVariants.{Refused};
-ghost use Rattle.answer.specs.Told.{told, refused};
-ghost use Rattle.label.specs.Marks.{Covered, CoveredByTwo, TouchesEither};
+ghost use Rattle.std.specs.Prelude.{◌≡◌, ℕ, Bool, List, Decides, OnErr};
+ghost use Rattle.label.specs.Marks.{Covered, CoveredByTwo, TouchesEither, JoinedMark};
 
 use answer::Refusal;
 
@@ -36,13 +34,9 @@ pub trait Join: Compare + Sized {
     /// Fills `out` with the joined mark. A refusal leaves `out` as it was, and comes only where the
     /// joined mark passes its size: no mark of this kind touches exactly those that either touches.
     fn join(&self, other: &Self, out: &mut Self) -> Result<(), Refusal>
-        ensures { MatchResult result
-            (λ _. (fits (joined (Self.Compare.numbers self.now) (Self.Compare.numbers other.now)) ≡ true)
-            × (Self.Compare.numbers out.new ≡ joined (Self.Compare.numbers self.now) (Self.Compare.numbers other.now)))
-            (λ q. (fits (joined (Self.Compare.numbers self.now) (Self.Compare.numbers other.now)) ≡ false)
-            × (told (Refused q) ≡ refused 10 [])
-            × (out.new ≡ out.old)
-            × ((m : Self) → TouchesEither Self.Compare.touches (Self.Compare.numbers m) (Self.Compare.numbers self.now) (Self.Compare.numbers other.now) → ⊥)) };
+        ensures joined { JoinedMark fits (λ _. Self.Compare.numbers out.new) (joined (Self.Compare.numbers self.now) (Self.Compare.numbers other.now)) result }
+        ensures kept { OnErr result (out.new ≡ out.old) }
+        ensures needed { OnErr result ((m : Self) → TouchesEither Self.Compare.touches (Self.Compare.numbers m) (Self.Compare.numbers self.now) (Self.Compare.numbers other.now) → ⊥) };
 
     /// A joined mark touches exactly those that either part touches.
     ghost either: { (a b : List ℕ) → TouchesEither Self.Compare.touches (joined a b) a b };
@@ -50,11 +44,7 @@ pub trait Join: Compare + Sized {
 
 /// The join of two marks, in a place of its own.
 pub fn join_marks<M: Join + Copy>(a: &M, b: &M) -> Result<M, Refusal>
-    ensures { MatchResult result
-        (λ m. (M.Join.fits (M.Join.joined (M.Compare.numbers a.now) (M.Compare.numbers b.now)) ≡ true)
-        × (M.Compare.numbers m ≡ M.Join.joined (M.Compare.numbers a.now) (M.Compare.numbers b.now)))
-        (λ q. (M.Join.fits (M.Join.joined (M.Compare.numbers a.now) (M.Compare.numbers b.now)) ≡ false)
-        × (told (Refused q) ≡ refused 10 [])) }
+    ensures { JoinedMark M.Join.fits M.Compare.numbers (M.Join.joined (M.Compare.numbers a.now) (M.Compare.numbers b.now)) result }
 {
     let mut out = *a;
     a.join(b, &mut out)?;

@@ -22,6 +22,8 @@ impl Sight {
         self.0.meets(group)
     }
 
+    // Apart from the trait's methods, so that a wrong comparison is refused here, and not in a proof of theirs.
+
     /// Tells whether every group that sees by `other` sees by this.
     fn seen_with(&self, other: &Sight) -> bool
         ensures { Decides result (Implies (clauses_of other.now.0) (clauses_of self.now.0)) }
@@ -61,12 +63,7 @@ impl Join for Sight {
     ghost either = { sight_either };
 
     fn join(&self, other: &Sight, out: &mut Sight) -> Result<(), Refusal> {
-        match self.0.and(other.0) {
-            Ok(joined) => {
-                out.0 = joined;
-                Ok(())
-            }
-            Err(_) => Err(Refusal::LargeLabel),
-        }
+        out.0 = self.0.and(other.0).map_err(|_| Refusal::LargeLabel)?;
+        Ok(())
     }
 }

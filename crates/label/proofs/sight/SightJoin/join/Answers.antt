@@ -1,12 +1,14 @@
-use Rattle.std.proofs.Common.{refl}
+use Rattle.std.proofs.Common.{sym, ap, ◌∙◌}
+use Rattle.std.specs.Prelude.{is_ok}
+use Rattle.std.proofs.lemmas.Result.{MatchResult-from_err}
 use Rattle.formula.specs.Of.{clauses_of}
-use Rattle.formula.proofs.Forming.{eight, formed_refused}
+use Rattle.label.proofs.Refused.{refused_means}
 use Rattle.label.specs.Tests.{sight_means}
 use Rattle.label.proofs.sight.SightJoin.join.Goals as goal
 
-pub returns-in-Err : goal.returns-in-Err
-returns-in-Err c =
+pub returns-in_err-out-clause-needed : goal.returns-in_err-out-clause-needed
+returns-in_err-out-clause-needed c =
     let a = clauses_of c.args.self.now.0 in
     let b = clauses_of c.args.other.now.0 in
-    let none = formed_refused c.in-Err.field-0 _ c.in-Err.ensures.answer in
-    (none.0, refl, refl, λ m h. c.in-Err.ensures.means none.1 (clauses_of m.0) (eight m.0) (sight_means (clauses_of m.0) a b h))
+    MatchResult-from_err _ _ _ c.from_residual.ensures.0
+    (λ _ f h. refused_means c.and.result _ _ c.and.ensures.answer c.and.ensures.means (sym c.map_err.ensures.variant ∙ ap is_ok c.in_err-out.was) f.0 (sight_means (clauses_of f.0) a b h))
