@@ -1,5 +1,5 @@
 -- When each key grants and how it denies.
-use Rattle.std.proofs.Common.{◌≡◌, ℕ, Bool, true, false, cond, not, ◌&&◌, ◌||◌, List, Some, None, Ok, Err, Decides, Option, sym, refl, subst, true≢false, arith}
+use Rattle.std.proofs.Common.{◌≡◌, ℕ, Bool, true, false, cond, not, ◌&&◌, ◌||◌, List, Some, None, Ok, Err, Decides, Option, sym, refl, subst, arith}
 use Rattle.std.proofs.lemmas.Bool.{both_ways, cond-true, cond-false}
 use Rattle.std.proofs.lemmas.Bool.Decides.{Decides-and, Decides-or, Decides-not, Decides-like}
 use Rattle.answer.specs.declared.Denial.{Denial}
@@ -10,8 +10,9 @@ use Rattle.clause.proofs.Least.{least_none, none_least, least_at}
 use Rattle.clause.proofs.Tests.{met_decides, within_decides, not_true}
 use Rattle.label.specs.declared.kind.Kind.{Kind}
 use Rattle.label.specs.declared.kind.Kind.TheVariants.{Release, Endorse}
-use Rattle.label.specs.Labels.{Marks, sees, handed, unseeing, flows, covered, relabelled}
-use Rattle.label.proofs.Order.{flows_by_groups}
+use Rattle.label.specs.Labels.{Marks, sees, handed, flows, covered, relabelled}
+use Rattle.label.specs.Tests.{sight_two_uncovered, hand_two_uncovered}
+use Rattle.label.proofs.Order.{flows_by_groups, covered_decides as covered_sides}
 use Rattle.key.specs.declared.mode.Mode.{Mode}
 use Rattle.key.specs.Requests.{Asked, Limits}
 use Rattle.key.specs.Meanings.{Verdict, Meaning, grant, passing, plain_covers, covers, gains, steers, steers_kind, unless_steered, robust, bounded}
@@ -59,31 +60,12 @@ high_decides : (b : Limits) (r : Asked) → Decides (flows r.held b.high && flow
 high_decides b r =
     Decides-and (flows r.held b.high) (flows r.task b.high) (flows_by_groups r.held b.high) (flows_by_groups r.task b.high)
 
-un_two : (x y z : Bool) → (not x ≡ true → (not y || not z) ≡ true) → y ≡ true → z ≡ true → x ≡ true
-un_two true y z h e f = refl
-un_two false true true h e f = absurd (true≢false (sym (h refl)))
-un_two false true false h e f = f
-un_two false false z h e f = e
-
-re_two : (x y z : Bool) → (y ≡ true → z ≡ true → x ≡ true) → not x ≡ true → (not y || not z) ≡ true
-re_two true y z h e = absurd (true≢false (sym e))
-re_two false true true h e = h refl refl
-re_two false true false h e = refl
-re_two false false z h e = refl
-
 pub covered_decides : (l a b : Marks) → Decides (covered l a b) (CoveredByBoth l a b)
 covered_decides l a b =
-    Decides-like (covered l a b)
-    (λ h g k. (
-      λ x y. (met_decides l.sight g).0 (un_two (sees l g) (sees a g) (sees b g) (h.0 g k) ((met_decides a.sight g).1 x) ((met_decides b.sight g).1 y)),
-      λ x. (Decides-or (handed a g) (handed b g) (met_decides a.hand g) (met_decides b.hand g)).0 (h.1 g k ((met_decides l.hand g).1 x)),
-    ))
-    (λ h. (
-      λ g k. re_two (sees l g) (sees a g) (sees b g) (λ x y. (met_decides l.sight g).1 ((h g k).0 ((met_decides a.sight g).0 x) ((met_decides b.sight g).0 y))),
-      λ g k x. (Decides-or (handed a g) (handed b g) (met_decides a.hand g) (met_decides b.hand g)).1 ((h g k).1 ((met_decides l.hand g).0 x)),
-    ))
-    (Decides-and (within (unseeing l) (λ g. unseeing a g || unseeing b g)) (within (handed l) (λ g. handed a g || handed b g))
-    (within_decides (unseeing l) (λ g. unseeing a g || unseeing b g)) (within_decides (handed l) (λ g. handed a g || handed b g)))
+    let sight = sight_two_uncovered l.sight a.sight b.sight in
+    let hand = hand_two_uncovered l.hand a.hand b.hand in
+    Decides-like (covered l a b) (λ h g k. (sight.0 h.0 g k, hand.0 h.1 g k)) (λ h. (sight.1 (λ g k. (h g k).0), hand.1 (λ g k. (h g k).1)))
+    (covered_sides l a b)
 
 plain_law : (f : List ℕ) (r : Asked) → PlainLaw f r
 plain_law f r =

@@ -1,6 +1,8 @@
-ghost use Rattle.std.specs.Prelude.{◌≡◌};
-ghost use Rattle.key.specs.Meanings.{covers as covers_kind};
+ghost use Rattle.std.specs.Prelude.{◌≡◌, if◌then◌else◌, Err};
+ghost use Rattle.answer.specs.declared.Denial.TheVariants.{OutsideMode};
+ghost use Rattle.key.specs.Meanings.{covers as covers_kind, grant};
 
+use answer::Denial;
 use label::Kind;
 
 /// The kinds of request that a wrap covers.
@@ -16,12 +18,20 @@ impl Mode {
     pub fn covers(self, kind: Kind) -> bool
         ensures { result ≡ covers_kind self kind }
     {
-        match (self, kind) {
-            (Mode::Both, _) => true,
-            (Mode::Releases, Kind::Release) => true,
-            (Mode::Releases, Kind::Endorse) => false,
-            (Mode::Endorsements, Kind::Release) => false,
-            (Mode::Endorsements, Kind::Endorse) => true,
+        matches!(
+            (self, kind),
+            (Mode::Both, _) | (Mode::Releases, Kind::Release) | (Mode::Endorsements, Kind::Endorse)
+        )
+    }
+
+    /// Denies a kind that the mode does not cover.
+    pub(crate) fn admit(self, kind: Kind) -> Result<(), Denial>
+        ensures { result ≡ (if covers_kind self kind then grant else Err OutsideMode) }
+    {
+        if self.covers(kind) {
+            Ok(())
+        } else {
+            Err(Denial::OutsideMode)
         }
     }
 }

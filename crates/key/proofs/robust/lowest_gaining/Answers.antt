@@ -1,9 +1,11 @@
-use Rattle.std.proofs.Common.{◌∙◌}
-use Rattle.formula.specs.Of.{clauses_of}
-use Rattle.key.proofs.Steering.{gaining}
+use Rattle.std.proofs.Common.{ap, ◌∙◌}
+use Rattle.clause.specs.Groups.{earlier as earlier_of}
+use Rattle.key.proofs.Steering.{by_hands}
 use Rattle.key.proofs.robust.lowest_gaining.Goals as goal
 
 pub returns : goal.returns
 returns c =
-    simp (c.as_slice.ensures.is, c.as_slice-2.ensures.is, c.as_slice-3.ensures.is) at c.lowest_missing.ensures
-    ∙ gaining (clauses_of c.args.old) (clauses_of c.args.new) (clauses_of c.args.hand)
+    c.earlier.ensures
+    ∙ ap (λ o. earlier_of o c.lowest_missing-by_record.result) c.lowest_missing-by_task.ensures
+    ∙ ap (earlier_of _) c.lowest_missing-by_record.ensures
+    ∙ by_hands c.args.old.now c.args.new.now c.args.record.now c.args.task.now
