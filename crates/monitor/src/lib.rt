@@ -1,6 +1,7 @@
 //! The yard label monitor: it keeps figures under labels, and rules on every use of them.
 #![tactic(auto)]
 
+mod figure;
 mod monitor;
 mod tables;
 

@@ -1,23 +1,17 @@
 mod change;
 mod enter;
 mod fetch;
+mod manner;
 mod new;
 mod show;
 mod tasks;
 mod work;
 
-ghost use Rattle.rules.specs.State.{AllBounded};
-ghost use Rattle.monitor.specs.View.{view};
-
 use crate::tables::Tables;
 
 /// The monitor. Every figure that it holds is at most 999,999,999 cents.
+// It has no model: callers may copy it, and a model of a `Copy` struct has to give back its fields.
 #[derive(Clone, Copy)]
 pub struct Monitor {
     tables: Tables,
-    ghost records: { AllBounded (view tables).records },
-    ghost tasks: { AllBounded (view tables).tasks },
 }
-
-/// The largest figure.
-const CEILING: u32 = 999_999_999;

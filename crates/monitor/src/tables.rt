@@ -1,34 +1,64 @@
-ghost use Rattle.std.specs.Prelude.{◌≡◌, ◌<◌};
-ghost use Rattle.rules.specs.State.{blank, record_at, with_record, task_at, with_task};
-ghost use Rattle.monitor.specs.View.{view, place_of};
+ghost use Rattle.std.specs.Prelude.{◌≡◌, ◌<◌, ◌≤◌, replicate, slice_index_or, slice_set, MatchResult};
+ghost use Rattle.answer.specs.declared.Refusal.TheVariants.{NoSuchNumber};
+ghost use Rattle.rules.specs.State.{blank, vacant};
+ghost use Rattle.monitor.specs.View.{view, place_of, places};
 
+use crate::figure::Figure;
+use answer::Refusal;
 use label::Label;
 
 /// How many records there are.
-pub const RECORDS: usize = 64;
+const RECORDS: usize = 64;
 
 /// How many tasks there are.
-pub const TASKS: usize = 8;
+const TASKS: usize = 8;
 
-/// A figure in cents, and its label.
+/// A figure and its label.
 #[derive(Clone, Copy)]
 pub struct Held {
-    pub figure: u32,
+    pub figure: Figure,
     pub label: Label,
 }
 
-/// A record is empty or filled; a task is closed (empty) or open (filled).
+/// Places by number. A record is empty or filled; a task is closed (empty) or open (filled).
 #[derive(Clone, Copy)]
-pub enum Slot {
-    Empty,
-    Filled(Held),
+pub struct Table<const N: usize> {
+    slots: [Option<Held>; N],
+}
+
+impl<const N: usize> Table<N> {
+    /// All places empty.
+    fn new() -> Table<N>
+        ensures { places result ≡ replicate N vacant }
+    {
+        Table { slots: [None; N] }
+    }
+
+    /// What the place holds, if there is a place of that number.
+    pub(crate) fn get(&self, number: u64) -> Result<Option<Held>, Refusal>
+        ensures { MatchResult result
+            (λ held. (number < N) × (place_of held ≡ slice_index_or (places self.now) number vacant))
+            (λ q. (N ≤ number) × (q ≡ NoSuchNumber)) }
+    {
+        self.slots
+            .get(number as usize)
+            .copied()
+            .ok_or(Refusal::NoSuchNumber)
+    }
+
+    pub(crate) fn set(&mut self, number: u64, held: Option<Held>)
+        requires { number < N }
+        ensures { places self.new ≡ slice_set (places self.old) number (place_of held) }
+    {
+        self.slots[number as usize] = held;
+    }
 }
 
 /// All records and tasks.
 #[derive(Clone, Copy)]
 pub struct Tables {
-    records: [Slot; RECORDS],
-    tasks: [Slot; TASKS],
+    pub records: Table<RECORDS>,
+    pub tasks: Table<TASKS>,
 }
 
 impl Tables {
@@ -37,36 +67,8 @@ impl Tables {
         ensures { view result ≡ blank }
     {
         Tables {
-            records: [Slot::Empty; RECORDS],
-            tasks: [Slot::Empty; TASKS],
+            records: Table::new(),
+            tasks: Table::new(),
         }
-    }
-
-    pub(crate) fn record(&self, i: usize) -> Slot
-        requires { i < 64 }
-        ensures { place_of result ≡ record_at (view self.now) i }
-    {
-        self.records[i]
-    }
-
-    pub(crate) fn task(&self, i: usize) -> Slot
-        requires { i < 8 }
-        ensures { place_of result ≡ task_at (view self.now) i }
-    {
-        self.tasks[i]
-    }
-
-    pub(crate) fn set_record(&mut self, i: usize, slot: Slot)
-        requires { i < 64 }
-        ensures { view self.new ≡ with_record (view self.old) i (place_of slot) }
-    {
-        self.records[i] = slot;
-    }
-
-    pub(crate) fn set_task(&mut self, i: usize, slot: Slot)
-        requires { i < 8 }
-        ensures { view self.new ≡ with_task (view self.old) i (place_of slot) }
-    {
-        self.tasks[i] = slot;
     }
 }

@@ -6,7 +6,7 @@ ghost use Rattle.rules.specs.Step.{changing};
 ghost use Rattle.monitor.specs.View.{view};
 
 use super::Monitor;
-use crate::tables::{Held, Slot};
+use crate::tables::Held;
 use answer::Refusal;
 use formula::Formula;
 use key::{Key, Request};
@@ -61,11 +61,10 @@ impl Monitor {
         };
         key.ask(&request)?;
         let filled = Held {
-            figure: pair.filled.figure,
             label: pair.filled.label.relabel(kind, new),
+            ..pair.filled
         };
-        self.tables
-            .set_record(record as usize, Slot::Filled(filled));
+        self.tables.records.set(record, Some(filled));
         Ok(())
     }
 }

@@ -4,8 +4,9 @@ ghost use Rattle.label.specs.Labels.{labelled};
 ghost use Rattle.monitor.specs.View.{view};
 ghost use Rattle.rules.specs.Step.{entering};
 
-use super::{CEILING, Monitor};
-use crate::tables::{Held, RECORDS, Slot};
+use super::Monitor;
+use crate::figure::Figure;
+use crate::tables::Held;
 use answer::Refusal;
 use formula::Party;
 use label::Label;
@@ -23,25 +24,17 @@ impl Monitor {
         ensures after { view self.new.tables ≡ (entering (view self.old.tables) «record» party figure (labelled label)).state }
     {
         let party = Party::try_from(party)?;
-        if record >= RECORDS as u64 {
-            return Err(Refusal::NoSuchNumber);
+        let place = self.tables.records.get(record)?;
+        let figure = Figure::try_from(figure)?;
+        if place.is_some() {
+            return Err(Refusal::RecordState);
         }
-        if figure > CEILING as u64 {
-            return Err(Refusal::LargeFigure);
+        if !label.has_hand(party.alone()) {
+            return Err(Refusal::NotItsHand);
         }
-        match self.tables.record(record as usize) {
-            Slot::Filled(_) => Err(Refusal::RecordState),
-            Slot::Empty => {
-                if !label.has_hand(party.alone()) {
-                    return Err(Refusal::NotItsHand);
-                }
-                let held = Held {
-                    figure: figure as u32,
-                    label,
-                };
-                self.tables.set_record(record as usize, Slot::Filled(held));
-                Ok(())
-            }
-        }
+        self.tables
+            .records
+            .set(record, Some(Held { figure, label }));
+        Ok(())
     }
 }

@@ -2,7 +2,7 @@ ghost use Rattle.monitor.specs.View.{view};
 ghost use Rattle.monitor.specs.Fetch.{Fetched, Sound};
 
 use super::Monitor;
-use crate::tables::{Held, RECORDS, Slot, TASKS};
+use crate::tables::Held;
 use answer::Refusal;
 
 /// An open task and a filled record.
@@ -18,15 +18,11 @@ impl Monitor {
         ensures found { Fetched (view self.now.tables) task «record» result }
         ensures sound { Sound task «record» result }
     {
-        if task >= TASKS as u64 || record >= RECORDS as u64 {
-            return Err(Refusal::NoSuchNumber);
-        }
-        let Slot::Filled(open) = self.tables.task(task as usize) else {
-            return Err(Refusal::TaskState);
-        };
-        let Slot::Filled(filled) = self.tables.record(record as usize) else {
-            return Err(Refusal::RecordState);
-        };
-        Ok(Pair { open, filled })
+        let open = self.tables.tasks.get(task)?;
+        let filled = self.tables.records.get(record)?;
+        Ok(Pair {
+            open: open.ok_or(Refusal::TaskState)?,
+            filled: filled.ok_or(Refusal::RecordState)?,
+        })
     }
 }

@@ -4,7 +4,6 @@ ghost use Rattle.monitor.specs.View.{view};
 ghost use Rattle.rules.specs.Step.{showing};
 
 use super::Monitor;
-use crate::tables::{RECORDS, Slot};
 use answer::Refusal;
 
 impl Monitor {
@@ -12,18 +11,15 @@ impl Monitor {
     pub fn show(&self, record: u64, group: u16) -> Result<u32, Refusal>
         ensures { says figure result ≡ (showing (view self.now.tables) «record» group).answer }
     {
-        if record >= RECORDS as u64 {
-            return Err(Refusal::NoSuchNumber);
-        }
-        match self.tables.record(record as usize) {
-            Slot::Empty => Err(Refusal::RecordState),
-            Slot::Filled(held) => {
-                if held.label.sees(group) {
-                    Ok(held.figure)
-                } else {
-                    Err(Refusal::NotSeen)
-                }
-            }
+        let held = self
+            .tables
+            .records
+            .get(record)?
+            .ok_or(Refusal::RecordState)?;
+        if held.label.sees(group) {
+            Ok(held.figure.cents)
+        } else {
+            Err(Refusal::NotSeen)
         }
     }
 }

@@ -5,7 +5,8 @@ ghost use Rattle.monitor.specs.View.{view};
 ghost use Rattle.rules.specs.Step.{opening, closing, opener};
 
 use super::Monitor;
-use crate::tables::{Held, Slot, TASKS};
+use crate::figure::Figure;
+use crate::tables::Held;
 use answer::Refusal;
 use formula::{Formula, Party};
 use label::{Hand, Label, Sight};
@@ -27,20 +28,15 @@ impl Monitor {
         ensures after { view self.new.tables ≡ (opening (view self.old.tables) task party).state }
     {
         let party = Party::try_from(party)?;
-        if task >= TASKS as u64 {
-            return Err(Refusal::NoSuchNumber);
+        if self.tables.tasks.get(task)?.is_some() {
+            return Err(Refusal::TaskState);
         }
-        match self.tables.task(task as usize) {
-            Slot::Filled(_) => Err(Refusal::TaskState),
-            Slot::Empty => {
-                let held = Held {
-                    figure: 0,
-                    label: opener_label(party),
-                };
-                self.tables.set_task(task as usize, Slot::Filled(held));
-                Ok(())
-            }
-        }
+        let held = Held {
+            figure: Figure { cents: 0 },
+            label: opener_label(party),
+        };
+        self.tables.tasks.set(task, Some(held));
+        Ok(())
     }
 
     /// Closes an open task.
@@ -48,15 +44,8 @@ impl Monitor {
         ensures answer { says nothing result ≡ (closing (view self.old.tables) task).answer }
         ensures after { view self.new.tables ≡ (closing (view self.old.tables) task).state }
     {
-        if task >= TASKS as u64 {
-            return Err(Refusal::NoSuchNumber);
-        }
-        match self.tables.task(task as usize) {
-            Slot::Empty => Err(Refusal::TaskState),
-            Slot::Filled(_) => {
-                self.tables.set_task(task as usize, Slot::Empty);
-                Ok(())
-            }
-        }
+        self.tables.tasks.get(task)?.ok_or(Refusal::TaskState)?;
+        self.tables.tasks.set(task, None);
+        Ok(())
     }
 }

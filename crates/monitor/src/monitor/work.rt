@@ -1,30 +1,13 @@
-ghost use Rattle.std.specs.Prelude.{◌≡◌, if◌then◌else◌, Some, None};
+ghost use Rattle.std.specs.Prelude.{◌≡◌};
 ghost use Rattle.answer.specs.Told.{says, nothing};
 ghost use Rattle.monitor.specs.View.{view};
-ghost use Rattle.rules.specs.Step.{taking, putting, dropping, is_manner, worked};
+ghost use Rattle.rules.specs.Step.{taking, putting, dropping};
 
+use super::Monitor;
 use super::fetch::Pair;
-use super::{CEILING, Monitor};
-use crate::tables::{Held, Slot};
+use super::manner::Manner;
+use crate::tables::Held;
 use answer::Refusal;
-
-/// The figure of a task that has `a` and takes in `b`.
-fn reckon(manner: u64, a: u32, b: u32) -> Option<u32>
-    ensures { result ≡ (if is_manner manner then Some (worked manner a b) else None) }
-{
-    let a = u64::from(a);
-    let b = u64::from(b);
-    let ceiling = u64::from(CEILING);
-    match manner {
-        0 if a + b > ceiling => Some(CEILING),
-        0 => Some((a + b) as u32),
-        1 if a < b => Some(0),
-        1 => Some((a - b) as u32),
-        2 if a * b > ceiling => Some(CEILING),
-        2 => Some((a * b) as u32),
-        _ => None,
-    }
-}
 
 impl Monitor {
     /// Joins the record's label into the task's, and works its figure into the task's.
@@ -33,12 +16,10 @@ impl Monitor {
         ensures after { view self.new.tables ≡ (taking (view self.old.tables) task «record» manner).state }
     {
         let pair = self.fetch(task, record)?;
-        let Some(figure) = reckon(manner, pair.open.figure, pair.filled.figure) else {
-            return Err(Refusal::NoSuchManner);
-        };
+        let manner = Manner::try_from(manner)?;
+        let figure = manner.reckon(pair.open.figure, pair.filled.figure);
         let label = pair.open.label.join(&pair.filled.label)?;
-        let open = Held { figure, label };
-        self.tables.set_task(task as usize, Slot::Filled(open));
+        self.tables.tasks.set(task, Some(Held { figure, label }));
         Ok(())
     }
 
@@ -53,10 +34,9 @@ impl Monitor {
         }
         let filled = Held {
             figure: pair.open.figure,
-            label: pair.filled.label,
+            ..pair.filled
         };
-        self.tables
-            .set_record(record as usize, Slot::Filled(filled));
+        self.tables.records.set(record, Some(filled));
         Ok(())
     }
 
@@ -69,7 +49,7 @@ impl Monitor {
         if !open.label.flows_to(&filled.label) {
             return Err(Refusal::NoFlow);
         }
-        self.tables.set_record(record as usize, Slot::Empty);
+        self.tables.records.set(record, None);
         Ok(())
     }
 }
