@@ -1,6 +1,7 @@
-use Rattle.std.proofs.Common.{◌≡◌, ℕ, zero, suc, ◌-◌, ◌<◌, ◌≤◌, List, length, get_or, refl, ap, inl, inr, arith}
+use Rattle.std.proofs.Common.{◌≡◌, ℕ, zero, suc, ◌-◌, ◌<◌, ◌≤◌, List, length, get_or, refl, ap, ◌∙◌, inl, inr, arith}
 use lib.Bits.{bit_and, and_self, and_le_r}
 use Rattle.std.proofs.lemmas.Bool.{cases_order}
+use Rattle.std.proofs.lemmas.List.{get_or_default, same_lists}
 use Rattle.clause.specs.Meaning.{Alike}
 use Rattle.clause.proofs.Reducing.{Chosen, has_minimal}
 
@@ -65,13 +66,21 @@ module _ (xs ys : List ℕ) (rx : Rises xs) (ry : Rises ys) (held : (i : ℕ) �
         ]
       ]
 
+-- clauses in kept form: sets of sixteen parties, rising, none containing another
+pub record KeptForm (xs : List ℕ) : Type 0 where
+  pub sixteen : (k : ℕ) → get_or xs k 0 < 65536
+  pub rises : Rises xs
+  pub antichain : Antichain xs
+
 -- kept forms that mean the same have the same clauses
-pub canonical : (xs ys : List ℕ) → ((k : ℕ) → get_or xs k 0 < 65536) → ((k : ℕ) → get_or ys k 0 < 65536) → Rises xs → Antichain xs → Rises ys → Antichain ys → Alike xs ys → (length xs ≡ length ys) × ((i : ℕ) → i < length xs → get_or xs i 0 ≡ get_or ys i 0)
-canonical xs ys fx fy rx ax ry ay same =
+pub canonical : (xs ys : List ℕ) → KeptForm xs → KeptForm ys → Alike xs ys → xs ≡ ys
+canonical xs ys fx fy same =
     let a : (i : ℕ) → i < length xs → (j : ℕ) × (j < length ys) × (get_or ys j 0 ≡ get_or xs i 0) =
-    has_minimal xs ys fx fy (λ i. get_or xs i 0) (length xs) (chosen_itself xs rx ax) same in
+    has_minimal xs ys fx.sixteen fy.sixteen (λ i. get_or xs i 0) (length xs) (chosen_itself xs fx.rises fx.antichain) same in
     let b : (i : ℕ) → i < length ys → (j : ℕ) × (j < length xs) × (get_or xs j 0 ≡ get_or ys i 0) =
-    has_minimal ys xs fy fx (λ i. get_or ys i 0) (length ys) (chosen_itself ys ry ay) (same.1, same.0) in (
-      omega (arith, no_longer xs ys rx ry a, no_longer ys xs ry rx b),
-      λ i h. omega (arith, no_less xs ys rx ry a i h, no_less ys xs ry rx b i (omega (arith, no_longer xs ys rx ry a))),
-    )
+    has_minimal ys xs fy.sixteen fx.sixteen (λ i. get_or ys i 0) (length ys) (chosen_itself ys fy.rises fy.antichain) (same.1, same.0) in
+    let l : length xs ≡ length ys = omega (arith, no_longer xs ys fx.rises fy.rises a, no_longer ys xs fy.rises fx.rises b) in
+    same_lists xs ys l
+    (λ k d h. get_or_default xs k d 0 h
+    ∙ omega (arith, no_less xs ys fx.rises fy.rises a k h, no_less ys xs fy.rises fx.rises b k (omega (arith, l)))
+    ∙ get_or_default ys k 0 d (omega (arith, l)))

@@ -2,11 +2,12 @@
 use Rattle.std.proofs.Common.{◌≡◌, ℕ, zero, suc, ◌*◌, ◌^◌, ◌<◌, Bool, true, false, cond, not, eqb, ltb, ◌⊎◌, List, [], ◌∷◌, length, get_or, filter, sym, refl, ap, ◌∙◌, subst, inl, inr, true≢false, pow-suc, arith}
 use lib.Bits.{bit_and, and_le_l, and_le_r}
 use Rattle.std.specs.List.{AllByRecursion}
-use Rattle.std.proofs.ByRecursion.{All-weaker, all_kept_by, kept_by_passes, All-get_or}
-use Rattle.std.proofs.lemmas.Bool.{eqb-true, eqb-false, ltb-true, ltb-false, and_parts, and_cases, or_cases, or_parts, cases_Bool, both_ways}
+use Rattle.std.proofs.ByRecursion.{All-weaker, all_kept_by, kept_by_passes, All-get_or, All-from_get_or}
+use Rattle.std.proofs.lemmas.Bool.{eqb-true, eqb-false, ltb-true, ltb-false, and_parts, and_cases, or_cases, or_parts, cases_Bool, cases_lt, both_ways}
+use Rattle.std.proofs.lemmas.List.{get_or_past}
 use Rattle.clause.specs.Meaning.{Shares, Alike}
 use Rattle.clause.proofs.Bitsets.{wider as widens}
-use Rattle.clause.proofs.Canonical.{Rises, Antichain}
+use Rattle.clause.proofs.Canonical.{Rises, Antichain, KeptForm}
 use Rattle.clause.specs.Reduced.{wider, some, minimal, placed, arranged, reduced}
 
 -- each stands so to all after it
@@ -159,3 +160,16 @@ antichain_reduced xs i j l h =
     let my = All-get_or (λ c. minimal xs c ≡ true) (reduced xs) j 0 h (minimal_reduced xs) in
     less x y (rises_reduced xs i j l h)
     (All-get_or (λ x. wider y x ≡ false) (reduced xs) i 0 (omega arith) (all_reduced (λ x. wider y x ≡ false) xs (apart_by xs y my)))
+
+-- so it is in kept form
+pub form_reduced : (xs : List ℕ) → ((k : ℕ) → get_or xs k 0 < 65536) → KeptForm (reduced xs)
+form_reduced xs s =
+    record {
+      sixteen = λ k.
+          elim (cases_lt k (length (reduced xs))) [
+            | inl h ↦ All-get_or (λ c. c < 65536) (reduced xs) k 0 h (all_reduced (λ c. c < 65536) xs (All-from_get_or (λ c. c < 65536) xs 0 (λ i _. s i)))
+            | inr h ↦ omega (arith, get_or_past (reduced xs) k 0 h)
+          ];
+      rises = rises_reduced xs;
+      antichain = antichain_reduced xs;
+    }

@@ -1,22 +1,22 @@
 -- A kept formula is the reduced list that means the same.
-use Rattle.std.proofs.Common.{◌≡◌, ℕ, ◌<◌, ◌≤◌, true, false, ◌⊎◌, List, [], ◌++◌, length, take, sym, ap, ◌∙◌, subst, inl, inr, arith, length-take}
-use Rattle.std.proofs.ByRecursion.{All-from_get_or, All-get_or}
-use Rattle.std.proofs.lemmas.List.{take_all, get_or_past}
-use Rattle.std.proofs.lemmas.Bool.{cases_lt, cases_Bool, leb-true, le-leb, cond-true, cond-false}
+use Rattle.std.proofs.Common.{◌≡◌, ℕ, ◌<◌, ◌≤◌, true, false, ◌⊎◌, List, [], ◌++◌, length, get_or, sym, ap, ◌∙◌, subst, inl, inr, arith, length-take}
+use Rattle.std.proofs.lemmas.Bool.{cases_Bool, leb-true, le-leb, cond-true, cond-false}
 use Rattle.answer.specs.declared.Refusal.{Refusal}
 use Rattle.answer.specs.declared.Answer.TheVariants.{Refused}
 use Rattle.answer.specs.Told.{granted, refused, told, question_of}
 use Rattle.answer.proofs.Telling.{never_granted}
 use Rattle.clause.specs.Meaning.{Meets, Means}
+use Rattle.clause.specs.Parts.{Over, Least}
 use Rattle.clause.specs.Unions.{unions}
 use Rattle.clause.specs.Reduced.{reduced}
 use Rattle.clause.proofs.Joining.{means_append, means_unions, means_through}
-use Rattle.clause.proofs.Reduced.{rises_reduced, antichain_reduced, alike_reduced, all_reduced}
+use Rattle.clause.proofs.Canonical.{canonical}
+use Rattle.clause.proofs.Reduced.{alike_reduced, form_reduced}
 use Rattle.formula.specs.declared.kept.Formula.{Formula}
-use Rattle.formula.specs.Kept.{Rising, Apart, Sixteen}
+use Rattle.formula.specs.Kept.{Sixteen}
 use Rattle.formula.specs.Of.{clauses_of}
 use Rattle.formula.specs.Forms.{fits, fitting, both, either}
-use Rattle.formula.proofs.Choosing.{take_same}
+use Rattle.formula.proofs.Choosing.{form, ChosenOf, chosen_all, crowded}
 
 -- a formula has at most eight clauses
 pub eight : (f : Formula) → length (clauses_of f) ≤ 8
@@ -35,28 +35,22 @@ means_either a b = means_reduced (unions a b) _ (means_unions a b)
 means_itself : (xs : List ℕ) → Means xs (Meets xs)
 means_itself xs g l = (λ m. m, λ m. m)
 
-pub small_reduced : (xs : List ℕ) → Sixteen xs → Sixteen (reduced xs)
-small_reduced xs s k =
-    elim (cases_lt k (length (reduced xs))) [
-      | inl h ↦ All-get_or (λ c. c < 65536) (reduced xs) k 0 h (all_reduced (λ c. c < 65536) xs (All-from_get_or (λ c. c < 65536) xs 0 (λ i _. s i)))
-      | inr h ↦ let e = get_or_past (reduced xs) k 0 h in omega arith
-    ]
+-- a formula that means the same as a list has the clauses of the reduced list
+pub formed_fits : (f : Formula) (xs : List ℕ) → Sixteen xs → Means (clauses_of f) (Meets xs) → granted (clauses_of f) ≡ fitting (reduced xs)
+formed_fits f xs s means =
+    let m = means_reduced xs (Meets xs) (means_itself xs) in
+    let is : clauses_of f ≡ reduced xs =
+    canonical (clauses_of f) (reduced xs) (form f) (form_reduced xs s) (λ g h k. (m g h).1 ((means g h).0 k), λ g h k. (means g h).1 ((m g h).0 k)) in
+    let h : fits (reduced xs) ≡ true = le-leb (length (reduced xs)) 8 (subst (λ (l : List ℕ). length l ≤ 8) is (eight f)) in
+    ap (λ (l : List ℕ). granted l) is ∙ sym (cond-true (fits (reduced xs)) (granted (reduced xs)) (refused 2 []) h)
 
--- clauses in kept form that mean the same as a list are the reduced list
-module _ (clauses : List ℕ) (n : ℕ) (small : n ≤ 8) (rising : Rising clauses n) (apart : Apart clauses n) (sixteen : Sixteen clauses) (xs : List ℕ) (s : Sixteen xs) (means : Means (take n clauses) (Meets xs)) where
-  kept_is : take n clauses ≡ reduced xs
-  kept_is =
-      let l : List ℕ = reduced xs in
-      let m = means_reduced xs (Meets xs) (means_itself xs) in
-      take_same clauses l n (length l) sixteen (small_reduced xs s) rising apart (rises_reduced xs) (antichain_reduced xs)
-      (simp (take_all (length l) l (omega arith)) (λ g h k. (m g h).1 ((means g h).0 k), λ g h k. (means g h).1 ((m g h).0 k)))
-      ∙ take_all (length l) l (omega arith)
+-- a formula of chosen clauses means what the list means once no clause of it is left
+pub means_chosen : (f : Formula) (list : List ℕ) → Sixteen list → ChosenOf list (clauses_of f) → ((k : ℕ) → k < length list → Over (clauses_of f) (get_or list k 0)) → Means (clauses_of f) (Meets list)
+means_chosen f list s ch over = let same = chosen_all list (clauses_of f) s ch over in λ g h. (same.1 g h, same.0 g h)
 
-  pub formed_fits : granted (take n clauses) ≡ fitting (reduced xs)
-  formed_fits =
-      let h : fits (reduced xs) ≡ true =
-      le-leb (length (reduced xs)) 8 (subst (λ (l : List ℕ). length l ≤ 8) kept_is (omega (arith, length-take n clauses))) in
-      ap (λ (l : List ℕ). granted l) kept_is ∙ sym (cond-true (fits (reduced xs)) (granted (reduced xs)) (refused 2 []) h)
+-- eight that are chosen and one more: no eight clauses mean what the list means
+pub means_crowded : (list xs : List ℕ) (c : ℕ) → Sixteen list → ChosenOf list xs → Least list (length list) xs c → length xs ≡ 8 → (ys : List ℕ) → length ys ≤ 8 → Means ys (Meets list) → ⊥
+means_crowded list xs c s ch found eight ys short m = crowded list xs c s ch found eight ys short (λ g h. (m g h).1, λ g h. (m g h).0)
 
 pub formed_large : (xs : List ℕ) → ((ys : List ℕ) → length ys ≤ 8 → Means ys (Meets xs) → ⊥) → refused 2 [] ≡ fitting (reduced xs)
 formed_large xs none =

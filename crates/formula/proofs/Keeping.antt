@@ -1,25 +1,21 @@
 -- Lists of clauses in kept form.
-use Rattle.std.proofs.Common.{◌≡◌, ℕ, suc, ◌<◌, true, false, not, eqb, ltb, leb, List, [], ◌∷◌, length, get_or, take, Some, None, sym, refl, ap, ◌∙◌, subst, inl, inr, arith, length-take}
+use Rattle.std.proofs.Common.{◌≡◌, ℕ, suc, ◌<◌, ◌⊎◌, true, false, not, eqb, ltb, leb, List, [], ◌∷◌, length, get_or, take, Some, None, sym, refl, ap, ◌∙◌, subst, inl, inr, arith, length-take}
 use lib.Bits.{bit_and, and_le_l}
 use Rattle.std.specs.List.{AllByRecursion}
 use Rattle.std.proofs.ByRecursion.{All-from_get_or}
-use Rattle.std.proofs.lemmas.Bool.{and_parts, and_from, lt-ltb, ltb-true, le-leb, leb-true, eqb-true, eqb-false, ne_eqb, not-true, not-false, not_from_false, and_cases, and_left, cases_lt, cases_Bool, cond-true, cond-false}
-use Rattle.std.proofs.lemmas.List.{take_all, get_or-take}
+use Rattle.std.proofs.lemmas.Bool.{and_parts, and_from, lt-ltb, ltb-true, le-leb, leb-true, eqb-true, eqb-false, ne_eqb, not-true, not-false, not_from_false, and_cases, and_left, cases_Bool, cond-true, cond-false}
+use Rattle.std.proofs.lemmas.List.{get_or-take, get_or_default}
 use Rattle.answer.specs.Told.{granted}
 use Rattle.clause.specs.Reduced.{wider, reduced}
-use Rattle.clause.proofs.Canonical.{Rises, Antichain}
-use Rattle.clause.proofs.Reduced.{Pairs, pairs_get_d, rises_reduced, antichain_reduced, alike_reduced}
+use Rattle.clause.proofs.Canonical.{Rises, Antichain, KeptForm, canonical}
+use Rattle.clause.proofs.Reduced.{Pairs, pairs_get_d, alike_reduced, form_reduced}
 use Rattle.formula.specs.declared.kept.Formula.{Formula}
-use Rattle.formula.specs.Kept.{Unused, Rising, Apart, Sixteen}
+use Rattle.formula.specs.Kept.{Beside, Behind, Sixteen}
 use Rattle.formula.specs.Of.{clauses_of}
 use Rattle.formula.specs.Forms.{fitting}
 use Rattle.formula.specs.Keeping.{apart, apart_all, ordered, kept, keeping, KeptIsReduced}
-use Rattle.formula.proofs.Choosing.{take_same}
-use Rattle.formula.proofs.Forming.{eight, small_reduced}
-
--- of two clauses, the second is larger and does not contain the first
-abbrev pub Beside : ℕ → ℕ → Type 0
-Beside c d = (c < d) × (bit_and c d < c)
+use Rattle.formula.proofs.Choosing.{form}
+use Rattle.formula.proofs.Forming.{eight}
 
 less : (c d : ℕ) → c < d → wider d c ≡ false → bit_and c d < c
 less c d l e =
@@ -67,67 +63,30 @@ module _ (xs : List ℕ) (e : ordered xs ≡ true) where
   pub ordered_antichain : Antichain xs
   ordered_antichain i j l h = (pairs_get_d Beside xs (pairs_ordered xs e) i j l h).1
 
--- a formula's clauses are in kept form
+-- clauses in kept form pass the tests
+ordered_form : (xs : List ℕ) → KeptForm xs → ordered xs ≡ true
+ordered_form xs k = ordered_by xs (λ i j l h. (k.rises i j l h, k.antichain i j l h))
+
+-- so a formula's clauses do
 pub kept_clauses : (f : Formula) → kept (clauses_of f) ≡ true
 kept_clauses f =
     let xs : List ℕ = clauses_of f in
-    and_from (leb (length xs) 8) (ordered xs) (le-leb (length xs) 8 (eight f))
-    (ordered_by xs (λ i j l h.
-    let n : j < f.count = omega (arith, length-take f.count f.clauses) in
-    let p = get_or-take f.count f.clauses i 0 (omega arith) in
-    let q = get_or-take f.count f.clauses j 0 n in
-    simp (p, q) (f.rising i j l n, f.apart i j l n)))
+    and_from (leb (length xs) 8) (ordered xs) (le-leb (length xs) 8 (eight f)) (ordered_form xs (form f))
 
 -- each of a formula's clauses is a set of sixteen parties
 pub sixteen_clauses : (f : Formula) → AllByRecursion (λ c. c < 65536) (clauses_of f)
-sixteen_clauses f =
-    All-from_get_or (λ c. c < 65536) (clauses_of f) 0
-    (λ i h. omega (arith, get_or-take f.count f.clauses i 0 (omega (arith, length-take f.count f.clauses)), f.fits i))
+sixteen_clauses f = All-from_get_or (λ c. c < 65536) (clauses_of f) 0 (λ i h. (form f).sixteen i)
 
--- what an array holds that the whole of a list was copied into
-module _ (xs clauses : List ℕ) (n : ℕ) (same : take n clauses ≡ take n xs) (all : n ≡ length xs) where
-  copied_at : (i : ℕ) → i < length xs → get_or clauses i 0 ≡ get_or xs i 0
-  copied_at i h =
-      sym (get_or-take n clauses i 0 (omega arith)) ∙ ap (λ (y : List ℕ). get_or y i 0) same ∙ get_or-take n xs i 0 (omega arith)
-
-  pub copied_rising : Rises xs → Rising clauses (length xs)
-  copied_rising r i j l h =
-      let a : get_or clauses i 0 ≡ get_or xs i 0 = copied_at i (omega arith) in
-      let b : get_or clauses j 0 ≡ get_or xs j 0 = copied_at j h in
-      simp (a, b) (r i j l h)
-
-  pub copied_apart : Antichain xs → Apart clauses (length xs)
-  copied_apart r i j l h =
-      let a : get_or clauses i 0 ≡ get_or xs i 0 = copied_at i (omega arith) in
-      let b : get_or clauses j 0 ≡ get_or xs j 0 = copied_at j h in
-      simp (a, b) (r i j l h)
-
-  pub copied_fits : Unused clauses n → Sixteen xs → Sixteen clauses
-  copied_fits u s i =
-      elim (cases_lt i (length xs)) [
-        | inl h ↦ omega (arith, copied_at i h, s i)
-        | inr h ↦ omega (arith, u i (omega arith))
-      ]
-
-  pub copied_whole : take (length xs) clauses ≡ xs
-  copied_whole = ap (λ (k : ℕ). take k clauses) (sym all) ∙ same ∙ take_all n xs (omega arith)
+form_ordered : (xs : List ℕ) → Sixteen xs → ordered xs ≡ true → KeptForm xs
+form_ordered xs s e = record { sixteen = s; rises = ordered_rises xs e; antichain = ordered_antichain xs e }
 
 pub kept_is_reduced : KeptIsReduced
 kept_is_reduced xs s = (
   λ e.
       let h = and_parts (leb (length xs) 8) (ordered xs) e in
       let same = alike_reduced xs in
-      let l : List ℕ = reduced xs in (
-        leb-true (length xs) 8 h.0,
-        sym (take_all (length l) l (omega arith))
-            ∙ take_same l xs (length l) (length xs) (small_reduced xs s) s (rises_reduced xs) (antichain_reduced xs) (ordered_rises xs h.1) (ordered_antichain xs h.1)
-            (simp (take_all (length l) l (omega arith), take_all (length xs) xs (omega arith)) (same.1, same.0))
-            ∙ take_all (length xs) xs (omega arith),
-      ),
-  λ h.
-      and_from (leb (length xs) 8) (ordered xs) (le-leb (length xs) 8 h.0)
-      (ordered_by xs (subst (λ (y : List ℕ). (i j : ℕ) → i < j → j < length y → Beside (get_or y i 0) (get_or y j 0)) h.1
-      (λ i j l m. (rises_reduced xs i j l m, antichain_reduced xs i j l m)))),
+      (leb-true (length xs) 8 h.0, canonical (reduced xs) xs (form_reduced xs s) (form_ordered xs s h.1) (same.1, same.0)),
+  λ h. and_from (leb (length xs) 8) (ordered xs) (le-leb (length xs) 8 h.0) (subst (λ (y : List ℕ). ordered y ≡ true) h.1 (ordered_form (reduced xs) (form_reduced xs s))),
 )
 
 -- what it tells of a list that it was kept as a formula, or not
@@ -150,3 +109,25 @@ pub one_reduced : (xs ys : List ℕ) → length xs ≡ 1 → Sixteen xs → ys �
 one_reduced [] ys l s e = absurd (omega (arith, l))
 one_reduced (x ∷ []) ys l s e = (ap granted e ∙ sym (ap fitting ((kept_is_reduced (x ∷ []) s).0 refl).1), e)
 one_reduced (x ∷ y ∷ zs) ys l s e = absurd (omega (arith, l))
+
+-- a clause of a list in kept form may stand behind those before it
+pub behind_first : (xs : List ℕ) (i : ℕ) → i < length xs → ordered xs ≡ true → Behind (take i xs) (get_or xs i 0)
+behind_first xs i h e j d l =
+    let k : j < i = omega (arith, length-take i xs) in
+    subst (λ (b : ℕ). Beside b (get_or xs i 0)) (sym (get_or_default (take i xs) j d 0 l ∙ get_or-take i xs j 0 k)) (ordered_rises xs e j i k h, ordered_antichain xs e j i k h)
+
+pub keeping_yes : (xs : List ℕ) → kept xs ≡ true → Some xs ≡ keeping xs
+keeping_yes xs e = sym (cond-true (kept xs) (Some xs) None e)
+
+-- a list is not kept from its clause i on where eight stand before that, or it may not stand behind them
+pub keeping_no : (xs : List ℕ) (i : ℕ) → i < length xs → (length (take i xs) ≡ 8) ⊎ (Behind (take i xs) (get_or xs i 0) → ⊥) → None ≡ keeping xs
+keeping_no xs i h why =
+    elim (cases_Bool (kept xs)) [
+      | inr e ↦ sym (cond-false (kept xs) (Some xs) None e)
+      | inl e ↦
+          let k = and_parts (leb (length xs) 8) (ordered xs) e in
+          elim why [
+            | inl full ↦ absurd (omega (arith, length-take i xs, leb-true (length xs) 8 k.0))
+            | inr behind ↦ absurd (behind (behind_first xs i h k.1))
+          ]
+    ]

@@ -3,3 +3,4 @@ pub mod Gathering
 pub mod Forming
 pub mod Keeping
 pub mod Printing
+pub mod Equality

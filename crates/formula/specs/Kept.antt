@@ -1,5 +1,6 @@
 -- The kept form of a formula with `count` clauses.
 use Rattle.std.specs.Prelude.{◌≡◌, ℕ, ◌<◌, ◌≤◌, List, bit_and, slice_index}
+use Rattle.std.specs.List.{All}
 
 -- places that are not in use hold 0
 abbrev pub Unused : List ℕ → ℕ → Type 0
@@ -17,3 +18,11 @@ Apart clauses count = (i j : ℕ) → i < j → j < count → bit_and (slice_ind
 -- each place holds a set of sixteen parties
 abbrev pub Sixteen : List ℕ → Type 0
 Sixteen clauses = (i : ℕ) → slice_index clauses i < 65536
+
+-- the second clause rises above the first and does not contain it
+abbrev pub Beside : ℕ → ℕ → Type 0
+Beside c d = (c < d) × (bit_and c d < c)
+
+-- a clause that may stand behind these
+abbrev pub Behind : List ℕ → ℕ → Type 0
+Behind clauses c = All (λ b. Beside b c) clauses

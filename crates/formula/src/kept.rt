@@ -6,17 +6,18 @@ mod reduce;
 mod simple;
 mod text;
 
-ghost use Rattle.std.specs.Prelude.{◌≤◌};
+ghost use Rattle.std.specs.Prelude.{◌≡◌, ◌≤◌, length};
 ghost use Rattle.formula.specs.Kept.{Unused, Rising, Apart, Sixteen};
 
 pub use equal::equality_is_meaning;
 
 /// A formula in its kept form: at most eight clauses, rising by number, none containing another.
 /// Unused places hold 0, so that formulas with the same clauses are the same value.
-#[derive(Clone, Copy)]
+#[derive(Clone, Copy, PartialEq, Eq)]
 pub struct Formula {
     clauses: [u16; 8],
     count: usize,
+    ghost eight: { length clauses ≡ 8 },
     ghost small: { count ≤ 8 },
     ghost unused: { Unused clauses count },
     ghost rising: { Rising clauses count },

@@ -1,7 +1,6 @@
 //! Formulas in their kept form, and the sixteen parties.
 #![tactic(auto)]
 
-mod gathered;
 mod kept;
 mod party;
 

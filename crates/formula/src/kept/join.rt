@@ -5,8 +5,8 @@ ghost use Rattle.formula.specs.Of.{clauses_of};
 ghost use Rattle.formula.specs.Forms.{fitting, both, either, Formed};
 
 use super::Formula;
-use crate::gathered::Gathered;
 use answer::Refusal;
+use arrayvec::ArrayVec;
 
 /// The clause that names the parties of both.
 fn union(a: u16, b: u16) -> u16
@@ -17,12 +17,15 @@ fn union(a: u16, b: u16) -> u16
 
 impl Formula {
     /// The formula that the groups meet which meet both.
+    #[tactic(auto, using(crate::proofs::Gathering::formed_and))]
     pub fn and(self, other: Formula) -> Result<Formula, Refusal>
         ensures answer { says clauses_of result ≡ fitting (both (clauses_of self) (clauses_of other)) }
         ensures means { Formed (λ g. Meets (clauses_of self) g × Meets (clauses_of other) g) result }
     {
-        let list = Gathered::both(self.as_slice(), other.as_slice());
-        Formula::shrink(list.as_slice())
+        let mut list: ArrayVec<u16, 16> = ArrayVec::new();
+        list.try_extend_from_slice(self.as_slice()).unwrap();
+        list.try_extend_from_slice(other.as_slice()).unwrap();
+        Formula::shrink(&list)
     }
 
     /// The formula that the groups meet which meet either.
@@ -32,12 +35,12 @@ impl Formula {
     {
         let ours = self.as_slice();
         let theirs = other.as_slice();
-        let mut list = Gathered::new();
+        let mut list: ArrayVec<u16, 64> = ArrayVec::new();
         for &first in ours {
             for &second in theirs {
                 list.push(union(first, second));
             }
         }
-        Formula::shrink(list.as_slice())
+        Formula::shrink(&list)
     }
 }

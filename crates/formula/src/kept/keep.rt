@@ -1,56 +1,39 @@
-ghost use Rattle.std.specs.Prelude.{◌≡◌};
-ghost use Rattle.formula.specs.Keeping.{apart, apart_all, ordered, keeping, clauses_in, KeptIsReduced};
+ghost use Rattle.std.specs.Prelude.{◌≡◌, ◌↔◌, IsTrue, Decides};
+ghost use Rattle.formula.specs.Kept.{Beside, Behind};
+ghost use Rattle.formula.specs.Of.{clauses_of};
+ghost use Rattle.formula.specs.Keeping.{keeping, clauses_in, KeptIsReduced};
 
 use super::Formula;
 
 impl Formula {
     /// The formula with these clauses, where they are in kept form.
+    #[tactic(auto, using(crate::proofs::Keeping::kept_is_reduced))]
     pub fn keep(list: &[u16]) -> Option<Formula>
         ensures answer { clauses_in result ≡ keeping list.now }
         ensures law { KeptIsReduced }
     {
-        if list.len() > 8 {
-            return None;
+        let mut formula = Formula::truth();
+        for &clause in list {
+            if formula.is_full() || !formula.admits(clause) {
+                return None;
+            }
+            formula.push(clause);
         }
-        if !is_ordered(list) {
-            return None;
-        }
-        let mut clauses = [0; 8];
-        for i in 0..list.len() {
-            clauses[i] = list[i];
-        }
-        Some(Formula {
-            clauses,
-            count: list.len(),
-        })
+        Some(formula)
     }
-}
 
-/// Do the clauses rise, and does none contain another?
-fn is_ordered(list: &[u16]) -> bool
-    ensures { result ≡ ordered list.now }
-{
-    for i in 0..list.len() {
-        if !all_apart(list[i], &list[i + 1..]) {
-            return false;
-        }
+    /// Tells whether the clause may stand behind those in use.
+    fn admits(&self, clause: u16) -> bool
+        ensures { IsTrue result ↔ Behind (clauses_of self.now) clause }
+    {
+        self.as_slice()
+            .iter()
+            .all(|&earlier| are_apart(earlier, clause))
     }
-    true
-}
-
-fn all_apart(first: u16, later: &[u16]) -> bool
-    ensures { result ≡ apart_all first later.now }
-{
-    for &second in later {
-        if !are_apart(first, second) {
-            return false;
-        }
-    }
-    true
 }
 
 fn are_apart(first: u16, second: u16) -> bool
-    ensures { result ≡ apart first second }
+    ensures { Decides result (Beside first second) }
 {
     first < second && first & second != first
 }

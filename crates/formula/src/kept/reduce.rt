@@ -33,15 +33,13 @@ impl Formula {
         if let [clause] = list {
             return Ok(Formula::of_clause(*clause));
         }
-        let mut clauses = [0; 8];
-        let mut count = 0;
-        while let Some(clause) = clause::least_beside(list, &clauses[0..count]) {
-            if count == 8 {
+        let mut formula = Formula::truth();
+        while let Some(clause) = clause::least_beside(list, formula.as_slice()) {
+            if formula.is_full() {
                 return Err(Refusal::LargeFormula);
             }
-            clauses[count] = clause;
-            count += 1;
+            formula.push(clause);
         }
-        Ok(Formula { clauses, count })
+        Ok(formula)
     }
 }

@@ -1,6 +1,7 @@
-ghost use Rattle.std.specs.Prelude.{◌≡◌, ◌≤◌, [], ◌∷◌, length};
+ghost use Rattle.std.specs.Prelude.{◌≡◌, ◌<◌, ◌≤◌, ◌==◌, [], ◌∷◌, ◌++◌, length};
 ghost use Rattle.clause.specs.Meaning.{Means};
 ghost use Rattle.clause.specs.Parties.{Member, Sharing};
+ghost use Rattle.formula.specs.Kept.{Behind};
 ghost use Rattle.formula.specs.Of.{clauses_of};
 ghost use Rattle.formula.specs.Party.{alone};
 
@@ -40,9 +41,26 @@ impl Formula {
     pub(crate) fn of_clause(clause: u16) -> Formula
         ensures { clauses_of result ≡ clause ∷ [] }
     {
-        let mut clauses = [0; 8];
-        clauses[0] = clause;
-        Formula { clauses, count: 1 }
+        let mut formula = Formula::truth();
+        formula.push(clause);
+        formula
+    }
+
+    /// Tells whether there is room for no more clauses.
+    pub(super) fn is_full(&self) -> bool
+        ensures { result ≡ (length (clauses_of self.now) == 8) }
+    {
+        self.count == self.clauses.len()
+    }
+
+    /// Adds a clause behind those in use.
+    pub(super) fn push(&mut self, clause: u16)
+        requires room { length (clauses_of self.old) < 8 }
+        requires behind { Behind (clauses_of self.old) clause }
+        ensures { clauses_of self.new ≡ clauses_of self.old ++ clause ∷ [] }
+    {
+        self.clauses[self.count] = clause;
+        self.count += 1;
     }
 
     /// The clauses in use.

@@ -1,6 +1,6 @@
-use Rattle.std.proofs.Common.{◌≡◌, length, take}
-use Rattle.formula.specs.Kept.{Unused}
+use Rattle.std.proofs.Common.{◌≡◌, take}
+use Rattle.formula.specs.Of.{clauses_of}
 use Rattle.formula.proofs.kept.Formula.keep.Given as goal
 
-abbrev pub invariant-loop-i : goal.invariant-loop-i
-invariant-loop-i l = (length l.clauses ≡ 8) × (take l.i l.clauses ≡ take l.i l.list) × Unused l.clauses l.i
+abbrev pub invariant-loop-clause : goal.invariant-loop-clause
+invariant-loop-clause l = clauses_of l.formula ≡ take l.clause-index l.list

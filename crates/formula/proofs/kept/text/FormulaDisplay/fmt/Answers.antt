@@ -6,7 +6,7 @@ use Rattle.std.specs.List.{flat_map}
 use Rattle.answer.specs.Text.{hex_text}
 use Rattle.formula.specs.Text.{next_text, formula_text}
 use Rattle.formula.specs.Kept.{Sixteen}
-use Rattle.formula.proofs.Choosing.{low}
+use Rattle.formula.proofs.Choosing.{form}
 use Rattle.formula.proofs.Printing.{hex_hole}
 use Rattle.formula.proofs.kept.text.FormulaDisplay.fmt.Goals as goal
 
@@ -18,7 +18,7 @@ loop-clause-preserved g c =
     let i = c.loop-clause.clause-index in
     let x : ℕ = get_or rest i 0 in
     let f = c.args.self.now in
-    let fits : Sixteen xs = subst Sixteen (sym c.as_slice.ensures.is) (low f.clauses f.count f.fits) in
+    let fits : Sixteen xs = subst Sixteen (sym c.as_slice.ensures.is) (form f).sixteen in
     let at : x ≡ get_or xs (1 + i) 0 = ap (λ (ys : List ℕ). get_or ys i 0) (take_rest xs 1) ∙ get_or-drop 1 xs i 0 in
     let before = c.loop-clause.invariant p in
     let hole = hex_hole c.in_radix-in-loop-clause.result c.laid_out-in-loop-clause.result x (omega (arith, at, fits (1 + i))) c.in_radix-in-loop-clause.ensures c.laid_out-in-loop-clause.ensures in
@@ -33,7 +33,7 @@ returns-clause-writes g c =
     let rest : List ℕ = take (length xs - 1) (drop 1 xs) in
     let x : ℕ = get_or xs 0 0 in
     let f = c.args.self.now in
-    let fits : Sixteen xs = subst Sixteen (sym c.as_slice.ensures.is) (low f.clauses f.count f.fits) in
+    let fits : Sixteen xs = subst Sixteen (sym c.as_slice.ensures.is) (form f).sixteen in
     let hole = hex_hole c.in_radix.result c.laid_out.result x (fits 0) c.in_radix.ensures c.laid_out.ensures in
     let now : HasWritten g.W.Write.write_str_gives c.args.f.now (hex_text x) c.write-2.new.self = (simp hole at c.in_ok-write.ensures.writes) p ok in
     let all : take c.loop-clause.clause-index rest ≡ drop 1 xs = take_all _ rest c.loop-clause-test.false ∙ take_rest xs 1 in
