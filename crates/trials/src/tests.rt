@@ -9,10 +9,7 @@ use std::process::Abort;
 use std::test::Fail;
 
 fn formula(list: &[u16]) -> Result<Formula, Fail> {
-    match Formula::reduce(list) {
-        Ok(f) => Ok(f),
-        Err(_) => Err(Fail::new("no formula")),
-    }
+    Formula::reduce(list).map_err(|_| Fail::new("no formula"))
 }
 
 fn label(sight: &[u16], hand: &[u16]) -> Result<Label, Fail> {
@@ -47,17 +44,11 @@ fn asked<K: Key>(
         new: formula(new)?,
         task,
     };
-    match key.ask(&request) {
-        Ok(()) => Ok((0, None)),
-        Err(denial) => Ok(told(Err(Refusal::from(denial)))),
-    }
+    Ok(told(key.ask(&request).map_err(Refusal::from)))
 }
 
 fn refused_at(list: &[u16]) -> u8 {
-    match Formula::reduce(list) {
-        Ok(_) => 0,
-        Err(refusal) => refusal.number(),
-    }
+    Formula::reduce(list).err().map_or(0, Refusal::number)
 }
 
 #[test]
@@ -82,12 +73,8 @@ fn implying(rt: HostRuntime) -> Result<(), Fail> {
     assert!(rt; both.implies(either));
     assert!(rt; !either.implies(both));
     assert!(rt; !Formula::truth().implies(one));
-    let Ok(and) = one.and(two) else {
-        return Err(Fail::new("and"));
-    };
-    let Ok(or) = one.or(two) else {
-        return Err(Fail::new("or"));
-    };
+    let and = one.and(two).map_err(|_| Fail::new("and"))?;
+    let or = one.or(two).map_err(|_| Fail::new("or"))?;
     assert!(rt; and == both);
     assert!(rt; or == either);
     let Ok(party) = Party::try_from(1) else {
@@ -214,10 +201,7 @@ fn worked(rt: &impl Abort, first: u64, second: u64, manner: u64) -> Result<u32, 
     assert_eq!(rt; told(monitor.take(0, 0, 0)), (0, None));
     assert_eq!(rt; told(monitor.take(0, 1, manner)), (0, None));
     assert_eq!(rt; told(monitor.put(0, 1)), (0, None));
-    match monitor.show(1, 0) {
-        Ok(figure) => Ok(figure),
-        Err(_) => Err(Fail::new("not shown")),
-    }
+    monitor.show(1, 0).map_err(|_| Fail::new("not shown"))
 }
 
 #[test]
