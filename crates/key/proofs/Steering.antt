@@ -1,18 +1,10 @@
 -- The lowest group that steers a release, found hand by hand.
-use Rattle.std.proofs.Common.{◌≡◌, ℕ, Bool, true, false, not, ◌&&◌, ◌||◌, List, refl}
+use Rattle.std.proofs.Common.{◌≡◌, ℕ, Bool, not, ◌&&◌, ◌||◌, List, arith}
 use Rattle.clause.specs.Groups.{met, lowest, earlier}
 use Rattle.lowest.proofs.Choosing.{earlier_is}
 
 either_hand : (n o h k : Bool) → ((n && not o) && (h || k)) ≡ (((n && k) && not o) || ((n && h) && not o))
-either_hand false o h k = refl
-either_hand true true true true = refl
-either_hand true true true false = refl
-either_hand true true false true = refl
-either_hand true true false false = refl
-either_hand true false true true = refl
-either_hand true false true false = refl
-either_hand true false false true = refl
-either_hand true false false false = refl
+either_hand n o h k = grind arith
 
 -- with the task's hand, or with the record's
 pub by_hands : (o n h k : List ℕ)

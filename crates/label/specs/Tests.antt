@@ -1,6 +1,6 @@
 -- Tests of sight and hand over all groups.
-use Rattle.std.specs.Prelude.{◌≡◌, ℕ, ◌<◌, Bool, true, false, not, ◌&&◌, ◌||◌, ◌⊎◌, ◌↔◌, List, Decides, refl}
-use Rattle.std.proofs.Common.{sym, ap, ◌∙◌, true≢false}
+use Rattle.std.specs.Prelude.{◌≡◌, ℕ, ◌<◌, Bool, true, not, ◌&&◌, ◌||◌, ◌⊎◌, ◌↔◌, List, Decides}
+use Rattle.std.proofs.Common.{sym, ap, ◌∙◌, arith}
 use Rattle.std.proofs.lemmas.Bool.Decides.{Decides-and, Decides-or, Decides-like, same_from_decides}
 use Rattle.clause.specs.Meaning.{Meets, Means, Implies, BothImply, ImpliesEither}
 use Rattle.clause.specs.Groups.{met, within}
@@ -23,8 +23,7 @@ met_either a b g l =
     (Decides-or (met a g) (met b g) (met_decides a g) (met_decides b g))
 
 not_and : (x y : Bool) → not (x && y) ≡ (not x || not y)
-not_and true y = refl
-not_and false y = refl
+not_and x y = grind arith
 
 pub sight_either : (a b : List ℕ) → TouchesEither sight_touches (both a b) a b
 sight_either a b o = ap not (met_both a b o.0 o.1) ∙ not_and (met a o.0) (met b o.0)
@@ -34,26 +33,16 @@ hand_either a b o = met_either a b o.0 o.1
 
 -- the other way round
 turned : (x y : Bool) → (y ≡ true → x ≡ true) → not x ≡ true → not y ≡ true
-turned true y h e = absurd (true≢false (sym e))
-turned false true h e = h refl
-turned false false h e = refl
+turned x y h e = grind arith
 
 back : (x y : Bool) → (not x ≡ true → not y ≡ true) → y ≡ true → x ≡ true
-back true y h e = refl
-back false true h e = absurd (true≢false (sym (h refl)))
-back false false h e = e
+back x y h e = grind arith
 
 turned_two : (x y z : Bool) → (y ≡ true → z ≡ true → x ≡ true) → not x ≡ true → (not y || not z) ≡ true
-turned_two true y z h e = absurd (true≢false (sym e))
-turned_two false true true h e = h refl refl
-turned_two false true false h e = refl
-turned_two false false z h e = refl
+turned_two x y z h e = grind arith
 
 back_two : (x y z : Bool) → (not x ≡ true → (not y || not z) ≡ true) → y ≡ true → z ≡ true → x ≡ true
-back_two true y z h e f = refl
-back_two false true true h e f = absurd (true≢false (sym (h refl)))
-back_two false true false h e f = f
-back_two false false z h e f = e
+back_two x y z h e f = grind arith
 
 -- what covering says of formulas
 pub sight_uncovered : (s t : List ℕ) → Covered sight_touches s t ↔ Implies t s
@@ -99,12 +88,7 @@ covered_within p q = Decides-like (within p q) (λ h o. h o.0 o.1) (λ h g l. h 
 
 -- what a mark means that touches exactly those that either of two touches
 one_side : (x y z : Bool) → not x ≡ (not y || not z) → x ≡ (y && z)
-one_side true true true e = refl
-one_side true true false e = absurd (true≢false (sym e))
-one_side true false z e = absurd (true≢false (sym e))
-one_side false true true e = absurd (true≢false e)
-one_side false true false e = refl
-one_side false false z e = refl
+one_side x y z e = grind arith
 
 pub sight_means : (m a b : List ℕ) → TouchesEither sight_touches m a b → Means m (λ g. Meets a g × Meets b g)
 sight_means m a b h g l =

@@ -15,6 +15,7 @@ use formula::Formula;
 #[derive(Clone, Copy)]
 pub struct Hand(pub Formula);
 
+// These stand apart from the methods that call them, so that a wrong test is refused here and not in their proofs.
 impl Hand {
     /// Tells whether `group` has a hand.
     pub(crate) fn has(&self, group: u16) -> bool
@@ -22,8 +23,6 @@ impl Hand {
     {
         self.0.meets(group)
     }
-
-    // Apart from the trait's methods, so that a wrong comparison is refused here, and not in a proof of theirs.
 
     /// Tells whether every group with a hand by this has one by `other`.
     fn kept_by(&self, other: &Hand) -> bool

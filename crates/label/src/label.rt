@@ -65,11 +65,11 @@ impl Label {
         match kind {
             Kind::Release => Label {
                 sight: Sight(new),
-                hand: self.hand,
+                ..*self
             },
             Kind::Endorse => Label {
-                sight: self.sight,
                 hand: Hand(new),
+                ..*self
             },
         }
     }

@@ -14,6 +14,7 @@ use formula::Formula;
 #[derive(Clone, Copy)]
 pub struct Sight(pub Formula);
 
+// These stand apart from the methods that call them, so that a wrong test is refused here and not in their proofs.
 impl Sight {
     /// Tells whether `group` sees.
     pub(crate) fn sees(&self, group: u16) -> bool
@@ -21,8 +22,6 @@ impl Sight {
     {
         self.0.meets(group)
     }
-
-    // Apart from the trait's methods, so that a wrong comparison is refused here, and not in a proof of theirs.
 
     /// Tells whether every group that sees by `other` sees by this.
     fn seen_with(&self, other: &Sight) -> bool
