@@ -1,5 +1,5 @@
 -- What a group's members enter moves no record without its hand, and no robust release that lets it in.
-use Rattle.std.proofs.Common.{◌≡◌, ℕ, zero, suc, ◌<◌, Bool, true, false, not, ◌&&◌, List, [], ◌∷◌, get_or, set, Ok, Err, sym, refl, ap, ◌∙◌, subst, inl, true≢false}
+use Rattle.std.proofs.Common.{◌≡◌, ℕ, zero, suc, ◌<◌, Bool, true, false, not, ◌&&◌, List, [], ◌∷◌, get_or, set, Ok, Err, sym, refl, ap, ◌∙◌, subst, inl, true≢false, arith}
 use Rattle.std.proofs.lemmas.Bool.{both_ways, and_parts, not-true}
 use Rattle.answer.specs.declared.Refusal.TheVariants.{Denied}
 use Rattle.answer.specs.Told.{granted}
@@ -19,6 +19,7 @@ use Rattle.rules.specs.State.{State, Place, vacant, holds, record_at, task_at, w
 use Rattle.rules.specs.Step.{Ruled, asks, on_held, is_task, is_record, by_key, done, request_for}
 use Rattle.rules.specs.Runs.{Call, Enter, Open, Close, Take, Put, Drop, Show, Change, Twin, lefts, rights, run, after, answer, is_granted, label_of, figure_of, label_at}
 use Rattle.rules.specs.Tracking.{Touched, Alike, empty, filled, Agree, Settled, Touching, MarkTracks}
+use Rattle.rules.specs.Laws.{is_held}
 use Rattle.rules.specs.Promise.{EnteredBy, lets_in, takes_off, NoneOf, ShowsOne, Influence}
 use Rattle.rules.proofs.Embedding.{embeds, lefts_embed, rights_embed, all_settled}
 use Rattle.rules.proofs.Onlookers.{hand_carried, met_grows}
@@ -31,10 +32,7 @@ module _ (g : ℕ) (bound : g < 65536) where
   into p l d = met_grows l.hand (alone p) g bound d
 
   not_off : (a b c : Bool) → (a && (b && not c)) ≡ false → a ≡ true → b ≡ true → c ≡ false → ⊥
-  not_off true true true h x y z = true≢false z
-  not_off true true false h x y z = true≢false h
-  not_off true false c h x y z = true≢false (sym y)
-  not_off false b c h x y z = true≢false (sym x)
+  not_off a b c h x y z = grind arith
 
   settled : (t u : State) (c : Call) → takes_off g t c ≡ false → Settled moved t u c
   settled t u (Enter i p n l) h = tt
@@ -87,10 +85,6 @@ changed kind t k i f key a l n h b s r g =
     ∙ ap (λ (x : Place). (on_held t 5 x (λ a l. on_held t 6 (record_at t i) (next a l))).state) s
     ∙ ap (λ (x : Place). (on_held t 6 x (next a l)).state) r
     ∙ ap (λ (v : Verdict). (by_key t v (done (with_record t i (holds n (relabelled kind h f))))).state) g
-
-abbrev is_held : Place → Bool
-is_held vacant = false
-is_held (holds n l) = true
 
 -- the other run's place
 partner : {touched : Touched} (r r' : Place) (n : ℕ) (h : Marks) → Alike touched r r' → r ≡ holds n h → (n' : ℕ) × (r' ≡ holds n' h) × (touched h ≡ false → n ≡ n')

@@ -1,5 +1,5 @@
 -- What is closed to a group stays closed.
-use Rattle.std.proofs.Common.{◌≡◌, ℕ, ◌<◌, Bool, true, false, not, ◌&&◌, List, [], ◌∷◌, sym, ap, subst, inl, inr, true≢false}
+use Rattle.std.proofs.Common.{◌≡◌, ℕ, ◌<◌, Bool, true, false, not, ◌&&◌, List, [], ◌∷◌, ap, subst, inl, inr, arith}
 use lib.Bits.{bit_and}
 use Rattle.std.proofs.lemmas.Bool.{cases_eq, both_ways}
 use Rattle.answer.specs.Told.{Told, granted}
@@ -23,10 +23,7 @@ module _ (g : ℕ) (bound : g < 65536) where
   into p l d = λ _. ap not d
 
   not_let : (a b c : Bool) → (a && (b && not c)) ≡ false → a ≡ true → not c ≡ true → not b ≡ false → ⊥
-  not_let true true true h x y z = true≢false (sym y)
-  not_let true true false h x y z = true≢false h
-  not_let true false c h x y z = true≢false z
-  not_let false b c h x y z = true≢false (sym x)
+  not_let a b c h x y z = grind arith
 
   settled : (t u : State) (c : Call) → lets_in g t c ≡ false → Settled hidden t u c
   settled t u (Enter i p n l) h = tt

@@ -12,7 +12,8 @@ use Rattle.key.specs.Meanings.{Meaning, Verdict}
 use Rattle.rules.specs.State.{State, Place, vacant, holds, record_at, task_at, with_record, with_task, is_figure}
 use Rattle.rules.specs.Step.{Ruled, done, asks, on_vacant, on_held, on_both, is_record, is_task, is_party, is_manner, worked, opener, entering, opening, closing, taking, putting, dropping, showing, request_for, by_key, changing}
 use Rattle.rules.specs.Runs.{Call, Enter, Open, Close, Take, Put, Drop, Show, Change, step, after, answer, is_granted}
-use Rattle.rules.specs.Tracking.{Alike, empty, filled, Agree, Answered, equal, shown}
+use Rattle.rules.specs.Tracking.{Alike, empty, filled, Agree}
+use Rattle.rules.proofs.Low.{figures_only}
 use Rattle.rules.specs.Laws.{AltersOne, is_held, NoneGoes, NoneComes, LabelsBy, StepLaws}
 
 -- what holds of a refused call, and of what a call goes on to, holds of the call
@@ -138,63 +139,6 @@ labels_by t (Put k i) =
 labels_by t (Drop k i) = drops t (Come t) (come_no t) k i (set_comes t.records i, λ j. inl refl)
 labels_by t (Show i g) = shows t (λ x. x.state ≡ t) (λ x e. refl) i g (λ n. refl)
 labels_by t (Change kind k i f key) = changes t (Go t) (go_no t) kind k i f key (λ n l. (set_goes t.records i n l, λ j h. h))
-
--- answers of two states that differ only in figures
-module _ (t u : State) (w : Agree (λ _. true) t u) (R : Told → Told → Type 0) (itself : (x : Told) → R x x) where
-  two_asks : (q : ℕ) (b : Bool) (x y : Ruled) → R x.answer y.answer → R (asks t q b x).answer (asks u q b y).answer
-  two_asks q true x y h = h
-  two_asks q false x y h = itself (refused q [])
-
-  two_vacant : (q : ℕ) {s r : Place} → Alike (λ _. true) s r → (x y : Ruled) → R x.answer y.answer → R (on_vacant t q s x).answer (on_vacant u q r y).answer
-  two_vacant q empty x y h = h
-  two_vacant q (filled l a b e) x y h = itself (refused q [])
-
-  two_held : (q : ℕ) {s r : Place} → Alike (λ _. true) s r → (f h : ℕ → Marks → Ruled) → ((l : Marks) (a b : ℕ) → R (f a l).answer (h b l).answer) → R (on_held t q s f).answer (on_held u q r h).answer
-  two_held q empty f h n = itself (refused q [])
-  two_held q (filled l a b e) f h n = n l a b
-
-  two_both : (k i : ℕ) (f h : ℕ → Marks → ℕ → Marks → Ruled) → ((l : Marks) (a a' : ℕ) (r : Marks) (n n' : ℕ) → R (f a l n r).answer (h a' l n' r).answer) → R (on_both t k i f).answer (on_both u k i h).answer
-  two_both k i f h n =
-      two_asks 3 (is_task k && is_record i) _ _
-      (two_held 5 (w.tasks k) _ _ (λ l a a'. two_held 6 (w.records i) _ _ (λ r b b'. n l a a' r b b')))
-
-  two_verdict : (v : Verdict) (x y : Ruled) → R x.answer y.answer → R (by_key t v x).answer (by_key u v y).answer
-  two_verdict (Ok _) x y h = h
-  two_verdict (Err d) x y h = itself (told (Refused (Denied d)))
-
-figure_shown : (t u : State) (i g : ℕ) (l : Marks) (a b : ℕ) (x : Bool) → sees l g ≡ x
-    → Answered (λ _. true) (Show i g) (asks t 11 x (record { state = t; answer = granted (a ∷ []) })).answer (asks u 11 x (record { state = u; answer = granted (b ∷ []) })).answer
-figure_shown t u i g l a b true e = shown i g a b l e (λ c. absurd (true≢false c))
-figure_shown t u i g l a b false e = equal _ (refused 11 [])
-
-figures_only : (t u : State) (c : Call) → Agree (λ _. true) t u → Answered (λ _. true) c (answer t c) (answer u c)
-figures_only t u (Enter i p n l) w =
-    let R = Answered (λ _. true) (Enter i p n l) in
-    two_asks t u w R (equal _) 3 (is_record i && is_party p) _ _
-    (two_asks t u w R (equal _) 4 (is_figure n) _ _
-    (two_vacant t u w R (equal _) 6 (w.records i) _ _ (two_asks t u w R (equal _) 8 (handed l (alone p)) _ _ (equal _ (granted [])))))
-figures_only t u (Open k p) w =
-    let R = Answered (λ _. true) (Open k p) in
-    two_asks t u w R (equal _) 3 (is_task k && is_party p) _ _ (two_vacant t u w R (equal _) 5 (w.tasks k) _ _ (equal _ (granted [])))
-figures_only t u (Close k) w =
-    let R = Answered (λ _. true) (Close k) in
-    two_asks t u w R (equal _) 3 (is_task k) _ _ (two_held t u w R (equal _) 5 (w.tasks k) _ _ (λ l a b. equal _ (granted [])))
-figures_only t u (Take k i m) w =
-    let R = Answered (λ _. true) (Take k i m) in
-    two_both t u w R (equal _) k i _ _
-    (λ l a a' r n n'. two_asks t u w R (equal _) 7 (is_manner m) _ _ (two_asks t u w R (equal _) 10 (joinable l r) _ _ (equal _ (granted []))))
-figures_only t u (Put k i) w =
-    let R = Answered (λ _. true) (Put k i) in
-    two_both t u w R (equal _) k i _ _ (λ l a a' r n n'. two_asks t u w R (equal _) 9 (flows l r) _ _ (equal _ (granted [])))
-figures_only t u (Drop k i) w =
-    let R = Answered (λ _. true) (Drop k i) in
-    two_both t u w R (equal _) k i _ _ (λ l a a' r n n'. two_asks t u w R (equal _) 9 (flows l r) _ _ (equal _ (granted [])))
-figures_only t u (Show i g) w =
-    let R = Answered (λ _. true) (Show i g) in
-    two_asks t u w R (equal _) 3 (is_record i) _ _ (two_held t u w R (equal _) 6 (w.records i) _ _ (λ l a b. figure_shown t u i g l a b (sees l g) refl))
-figures_only t u (Change kind k i f key) w =
-    let R = Answered (λ _. true) (Change kind k i f key) in
-    two_both t u w R (equal _) k i _ _ (λ l a a' r n n'. two_verdict t u w R (equal _) (key (request_for kind r f l)) _ _ (equal _ (granted [])))
 
 pub step_laws : StepLaws
 step_laws = record { refused = refused_leaves; one = alters_one; labels = labels_by; figures = figures_only }
