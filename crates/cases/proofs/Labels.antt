@@ -63,6 +63,7 @@ joining =
       refused_side = (refl, refl);
       needless_side = λ s. true≢false s.0;
       misnamed_side = λ s. differ {m = 2} {n = 10} refl (ap question_of s.1);
+      own_size = λ s. false≢true s.0;
     }
 
 ordered : Ordered

@@ -5,10 +5,10 @@ use Rattle.clause.specs.Meaning.{Meets}
 use Rattle.formula.specs.Of.{clauses_of}
 use Rattle.label.specs.declared.kind.Kind.TheVariants.{Release, Endorse}
 use Rattle.label.specs.declared.label.Label.{Label}
-use Rattle.label.specs.Marks.{Covered, CoveredByTwo, TouchesEither, Group, sight_touches, hand_touches}
+use Rattle.formula.specs.Forms.{fits}
+use Rattle.label.specs.Marks.{Covered, CoveredByTwo, TouchesEither, JoinedMark, Group, sight_touches, hand_touches}
 use Rattle.label.specs.Labels.{Marks, labelled, sees, unseeing, handed, flows, join, joinable, JoinedLabel, relabelled}
 use Rattle.label.specs.Order.{FlowsByGroups, FlowsOrder, JoinLeast}
-use Rattle.label.specs.Sides.{JoinedSide}
 use Rattle.cases.specs.Table.{label, one, two, three, four, one_two}
 use Rattle.cases.specs.Formulas.{nine}
 
@@ -71,12 +71,13 @@ pub record Joining : Type 0 where
   pub endorsed : relabelled Endorse (label one two) four ≡ label one four
   pub both_sides : (l : Label) → clauses_of l.sight.0 ≡ one → clauses_of l.hand.0 ≡ two → labelled l ≡ label one two
   -- one side by itself
-  pub side : JoinedSide (λ m. m) one (Ok one)
-  pub other_side : JoinedSide (λ m. m) one (Ok two) → ⊥
-  pub large_side : JoinedSide (λ m. m) nine (Ok nine) → ⊥
-  pub refused_side : JoinedSide {M = List ℕ} (λ m. m) nine (Err LargeLabel)
-  pub needless_side : JoinedSide {M = List ℕ} (λ m. m) one (Err LargeLabel) → ⊥
-  pub misnamed_side : JoinedSide {M = List ℕ} (λ m. m) nine (Err LargeFormula) → ⊥
+  pub side : JoinedMark fits (λ m. m) one (Ok one)
+  pub other_side : JoinedMark fits (λ m. m) one (Ok two) → ⊥
+  pub large_side : JoinedMark fits (λ m. m) nine (Ok nine) → ⊥
+  pub refused_side : JoinedMark {A = List ℕ} fits (λ m. m) nine (Err LargeLabel)
+  pub needless_side : JoinedMark {A = List ℕ} fits (λ m. m) one (Err LargeLabel) → ⊥
+  pub misnamed_side : JoinedMark {A = List ℕ} fits (λ m. m) nine (Err LargeFormula) → ⊥
+  pub own_size : JoinedMark (λ _. false) (λ m. m) one (Ok one) → ⊥
 
 -- what the laws of the order say
 pub record Ordered : Type 0 where

@@ -96,17 +96,17 @@ in_monitor =
       holding = λ h n l i. holds (n i) (l i);
       viewed_records = λ t e. ap (map place_of) e;
       viewed_tasks = λ t e. ap (map place_of) e;
+      manners = (refl, refl, refl);
       fetched = λ p a l n r next. on_to next (sym a) (sym l) (sym n) (sym r);
       fetched_other = λ p n f. differ {m = 500} {n = 7} refl (ap first_in (f (λ a l n r. tell n)) ∙ n);
       fetched_closed = λ next. refl;
       fetched_empty = λ next. refl;
       fetched_misnamed = λ f. differ {m = 6} {n = 5} refl (ap (λ (r : Ruled). question_of r.answer) (f (λ a l n r. tell n)));
       fetched_needless = λ f. true≢false (ap (λ (r : Ruled). is_granted r.answer) (f (λ a l n r. tell n)));
-      sound = λ p a n. (lit< tt, lit< tt, ap is_figure a, ap is_figure n);
+      sound = λ p. (lit< tt, lit< tt);
       no_task = λ p s. let z : 8 < 8 = s.0 in omega arith;
       no_record = λ p s. let z : 64 < 64 = s.1 in omega arith;
-      no_figure = λ p a s. false≢true (sym (ap is_figure a) ∙ s.2);
-      no_figure_held = λ p a s. false≢true (sym (ap is_figure a) ∙ s.3);
+      no_figure = λ f e. let small = f.small in omega arith;
       sound_refused = tt;
     }
 

@@ -8,7 +8,9 @@ use Rattle.rules.specs.State.{State, vacant, holds}
 use Rattle.monitor.specs.declared.monitor.fetch.Pair.{Pair}
 use Rattle.monitor.specs.declared.tables.Tables.{Tables}
 use Rattle.monitor.specs.declared.tables.Held.{Held}
-use Rattle.monitor.specs.declared.tables.Slot.TheVariants.{Empty, Filled}
+use Rattle.monitor.specs.declared.figure.Figure.{Figure}
+use Rattle.monitor.specs.declared.monitor.manner.Manner.TheVariants.{Add, Subtract, Multiply}
+use Rattle.monitor.specs.Manner.{number_of}
 use Rattle.monitor.specs.View.{place_of, view}
 use Rattle.monitor.specs.Fetch.{Fetched, Sound}
 use Rattle.docket.specs.declared.entry.Entry.{Entry}
@@ -125,24 +127,24 @@ abbrev pub tables : Marks → Marks → State
 tables l r = table (vacant ∷ holds 500 r ∷ []) (holds 7 l ∷ [])
 
 pub record InMonitor : Type 0 where
-  pub empty : place_of Empty ≡ vacant
-  pub holding : (h : Held) → h.figure ≡ 500 → labelled h.label ≡ free → place_of (Filled h) ≡ holds 500 free
-  pub viewed_records : (t : Tables) → t.records ≡ Empty ∷ [] → (view t).records ≡ vacant ∷ []
-  pub viewed_tasks : (t : Tables) → t.tasks ≡ Empty ∷ Empty ∷ [] → (view t).tasks ≡ vacant ∷ vacant ∷ []
+  pub empty : place_of None ≡ vacant
+  pub holding : (h : Held) → h.figure.cents ≡ 500 → labelled h.label ≡ free → place_of (Some h) ≡ holds 500 free
+  pub viewed_records : (t : Tables) → t.records.slots ≡ None ∷ [] → (view t).records ≡ vacant ∷ []
+  pub viewed_tasks : (t : Tables) → t.tasks.slots ≡ None ∷ None ∷ [] → (view t).tasks ≡ vacant ∷ vacant ∷ []
+  pub manners : (number_of Add ≡ 0) × (number_of Subtract ≡ 1) × (number_of Multiply ≡ 2)
   -- what is fetched is what a call goes on with
   pub fetched :
-      (p : Pair) → p.«open».figure ≡ 7 → labelled p.«open».label ≡ label one two → p.filled.figure ≡ 500 → labelled p.filled.label ≡ label two one
+      (p : Pair) → p.«open».figure.cents ≡ 7 → labelled p.«open».label ≡ label one two → p.filled.figure.cents ≡ 500 → labelled p.filled.label ≡ label two one
       → Fetched (tables (label one two) (label two one)) 0 1 (Ok p)
-  pub fetched_other : (p : Pair) → p.filled.figure ≡ 7 → Fetched (tables (label one two) (label two one)) 0 1 (Ok p) → ⊥
+  pub fetched_other : (p : Pair) → p.filled.figure.cents ≡ 7 → Fetched (tables (label one two) (label two one)) 0 1 (Ok p) → ⊥
   pub fetched_closed : Fetched (tables free free) 1 1 (Err TaskState)
   pub fetched_empty : Fetched (tables free free) 0 0 (Err RecordState)
   pub fetched_misnamed : Fetched (tables free free) 0 0 (Err TaskState) → ⊥
   pub fetched_needless : Fetched (tables free free) 0 1 (Err RecordState) → ⊥
-  pub sound : (p : Pair) → p.«open».figure ≡ 7 → p.filled.figure ≡ 500 → Sound 7 63 (Ok p)
+  pub sound : (p : Pair) → Sound 7 63 (Ok p)
   pub no_task : (p : Pair) → Sound 8 0 (Ok p) → ⊥
   pub no_record : (p : Pair) → Sound 0 64 (Ok p) → ⊥
-  pub no_figure : (p : Pair) → p.«open».figure ≡ 1000000000 → Sound 0 0 (Ok p) → ⊥
-  pub no_figure_held : (p : Pair) → p.filled.figure ≡ 1000000000 → Sound 0 0 (Ok p) → ⊥
+  pub no_figure : (f : Figure) → f.cents ≡ 1000000000 → ⊥
   pub sound_refused : Sound 9 99 (Err NoSuchNumber)
 
 pub record Filed : Type 0 where
