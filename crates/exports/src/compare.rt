@@ -4,6 +4,7 @@ ghost use Rattle.formula.specs.Of.{clauses_of};
 ghost use Rattle.exports.specs.Comparing.{formula_from, outcome_of, compared, code_of, ByGroups};
 
 use answer::Refusal;
+use arrayvec::ArrayVec;
 use formula::Formula;
 
 /// Tells whether one list of clauses implies another, two bytes a clause, high byte first.
@@ -14,62 +15,47 @@ pub fn yard_compare(first: &[u8], second: &[u8]) -> u32
     code(compare(first, second))
 }
 
-/// How a comparison ends.
+/// Which of the two lists is refused, and why.
 #[derive(Clone, Copy)]
-pub enum Outcome {
-    No,
-    Yes,
-    /// The first list is refused.
+pub enum Unread {
     First(Refusal),
-    /// The second list is refused.
     Second(Refusal),
 }
 
-/// The number that C gets.
-fn code(outcome: Outcome) -> u32
+/// The number that C gets, as it has no enum for a `Result`.
+fn code(outcome: Result<bool, Unread>) -> u32
     ensures { result ≡ code_of (outcome_of outcome) }
 {
     match outcome {
-        Outcome::No => 0,
-        Outcome::Yes => 1,
-        Outcome::First(refusal) => 100 + u32::from(refusal.number()),
-        Outcome::Second(refusal) => 200 + u32::from(refusal.number()),
+        Ok(implied) => u32::from(implied),
+        Err(Unread::First(refusal)) => 100 + u32::from(refusal.number()),
+        Err(Unread::Second(refusal)) => 200 + u32::from(refusal.number()),
     }
 }
 
-fn compare(first: &[u8], second: &[u8]) -> Outcome
+fn compare(first: &[u8], second: &[u8]) -> Result<bool, Unread>
     ensures answer { outcome_of result ≡ compared first.now second.now }
     ensures means { ByGroups first.now second.now (outcome_of result) }
 {
-    let a = match formula_from(first) {
-        Ok(formula) => formula,
-        Err(refusal) => return Outcome::First(refusal),
-    };
-    let b = match formula_from(second) {
-        Ok(formula) => formula,
-        Err(refusal) => return Outcome::Second(refusal),
-    };
-    if a.implies(b) {
-        Outcome::Yes
-    } else {
-        Outcome::No
-    }
+    let first = formula_from(first).map_err(Unread::First)?;
+    let second = formula_from(second).map_err(Unread::Second)?;
+    Ok(first.implies(second))
 }
 
 /// The kept form of a list of clauses in bytes.
 fn formula_from(bytes: &[u8]) -> Result<Formula, Refusal>
     ensures { says clauses_of result ≡ formula_from bytes.now }
 {
-    if bytes.len() % 2 != 0 {
+    let (pairs, odd) = bytes.as_chunks::<2>();
+    if !odd.is_empty() {
         return Err(Refusal::Missing);
     }
-    let count = bytes.len() / 2;
-    if count > 64 {
+    if pairs.len() > 64 {
         return Err(Refusal::LongList);
     }
-    let mut clauses = [0; 64];
-    for i in 0..count {
-        clauses[i] = u16::from(bytes[2 * i]) * 256 + u16::from(bytes[2 * i + 1]);
+    let mut clauses = ArrayVec::<u16, 64>::new();
+    for &pair in pairs {
+        clauses.push(u16::from_be_bytes(pair));
     }
-    Formula::reduce(&clauses[0..count])
+    Formula::reduce(clauses.as_slice())
 }

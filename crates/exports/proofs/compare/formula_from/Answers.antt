@@ -1,32 +1,26 @@
-use Rattle.std.proofs.Common.{◌≡◌, ℕ, ◌/◌, ◌%◌, leb, List, [], length, take, sym, ap, ◌∙◌, arith, length-set}
-use native.Mathlib.Nat.{sub-zero}
-use Rattle.std.proofs.lemmas.Bool.{cond-true, cond-false, eq-eqb, lt-leb}
+use Rattle.std.proofs.Common.{◌≡◌, ℕ, ◌%◌, true, leb, eqb, List, [], length, map, sym, ap, ◌∙◌, arith}
+use Rattle.std.specs.Int.{w16, from_be_bytes}
+use Rattle.std.proofs.lemmas.Bool.{cond-true, cond-false, lt-leb}
+use Rattle.std.proofs.lemmas.List.{take_all}
 use Rattle.answer.specs.Told.{refused}
 use Rattle.formula.specs.Forms.{reduces}
 use Rattle.exports.specs.Comparing.{clauses_from, evenly, formula_from}
-use Rattle.exports.proofs.Clauses.{length_clauses, stored, all_stored}
+use Rattle.exports.proofs.Clauses.{length_clauses, in_pairs}
 use Rattle.exports.proofs.compare.formula_from.Goals as goal
 
-even : (bytes : List ℕ) → length bytes % 2 ≡ 0 → reduces (clauses_from bytes) ≡ formula_from bytes
-even bytes e = sym (cond-true (evenly bytes) (reduces (clauses_from bytes)) (refused 19 []) (eq-eqb (length bytes % 2) 0 e))
+even : (bytes : List ℕ) (n : ℕ) → n ≡ length bytes % 2 → eqb n 0 ≡ true → reduces (clauses_from bytes) ≡ formula_from bytes
+even bytes n e z = sym (cond-true (evenly bytes) (reduces (clauses_from bytes)) (refused 19 []) (ap (λ m. eqb m 0) (sym e) ∙ z))
 
-pub returns-then-count-gt64 : goal.returns-then-count-gt64
-returns-then-count-gt64 c =
+pub returns-then-pairs-gt64 : goal.returns-then-pairs-gt64
+returns-then-pairs-gt64 c =
     let bytes = c.args.bytes.now in
     sym (cond-false (leb (length (clauses_from bytes)) 64) _ (refused 1 []) (lt-leb (length (clauses_from bytes)) 64 (omega (arith, length_clauses bytes))))
-    ∙ even bytes (omega arith)
-
-pub loop-i-preserved : goal.loop-i-preserved
-loop-i-preserved c =
-    let i = c.loop-i.i in (
-      length-set c.loop-i.clauses i _ ∙ c.loop-i.invariant.0,
-      stored c.args.bytes.now c.loop-i.clauses i _ (omega arith) (omega (arith, c.loop-i.invariant.0)) (omega arith) c.loop-i.invariant.1,
-    )
+    ∙ even bytes _ c.as_chunks.ensures.back_len (sym c.is_empty.ensures ∙ c.if-not-is_empty.false)
 
 pub returns : goal.returns
 returns c =
     let bytes = c.args.bytes.now in
-    let n = length bytes / 2 in
-    c.reduce.ensures.answer
-    ∙ (ap (λ (k : ℕ). reduces (take k c.loop-i.clauses)) (sub-zero n)
-    ∙ (ap reduces (all_stored bytes c.loop-i.clauses c.loop-i.i n (omega arith) (omega arith) c.loop-i.invariant.1) ∙ even bytes (omega arith)))
+    let pairs = c.as_chunks.result.0.now in
+    let all : c.as_slice.result.now ≡ clauses_from bytes = c.as_slice.ensures.value ∙ c.loop-pair.invariant
+    ∙ ap (map (from_be_bytes w16)) (take_all c.loop-pair.pair-index pairs (omega arith) ∙ c.as_chunks.ensures.front) ∙ in_pairs bytes in
+    c.reduce.ensures.answer ∙ ap reduces all ∙ even bytes _ c.as_chunks.ensures.back_len (sym c.is_empty.ensures ∙ c.if-not-is_empty.false)

@@ -1,6 +1,6 @@
-use Rattle.std.proofs.Common.{◌≡◌, ◌*◌, ◌++◌, length, take, drop}
-use Rattle.exports.specs.Comparing.{clauses_from}
+use Rattle.std.proofs.Common.{◌≡◌, map, take}
+use Rattle.std.specs.Int.{w16, from_be_bytes}
 use Rattle.exports.proofs.compare.formula_from.Given as goal
 
-abbrev pub invariant-loop-i : goal.invariant-loop-i
-invariant-loop-i l = (length l.clauses ≡ 64) × (take l.i l.clauses ++ clauses_from (drop (2 * l.i) l.bytes) ≡ clauses_from l.bytes)
+abbrev pub invariant-loop-pair : goal.invariant-loop-pair
+invariant-loop-pair l = l.clauses.items ≡ map (from_be_bytes w16) (take l.pair-index l.pairs)
