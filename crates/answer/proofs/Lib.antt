@@ -1,3 +1,2 @@
 pub mod Telling
-pub mod Digits
-pub mod Prepending
+mod Digits

@@ -3,10 +3,9 @@
 
 mod convert;
 mod number;
-mod printed;
 mod text;
 
-pub use printed::Text;
+pub use text::Numbered;
 
 /// Why a key does not grant a request.
 #[derive(Clone, Copy)]
@@ -63,6 +62,7 @@ pub enum Refusal {
 }
 
 /// What a call answers.
+// An enum beside `Result<Option<u32>, Refusal>`, as it is printed: std's `Display` is for no `Result` here.
 #[derive(Clone, Copy)]
 pub enum Answer {
     /// The call is done.

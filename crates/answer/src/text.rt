@@ -1,41 +1,14 @@
 ghost use Rattle.std.specs.Prelude.{◌≡◌, Some};
 ghost use Rattle.answer.specs.Told.{told};
-ghost use Rattle.answer.specs.Text.{text, hex_text, hex_digit};
+ghost use Rattle.answer.specs.Text.{text, numbered};
 
 use crate::Answer;
 use std::fmt;
 
-/// A group, shown as four lowercase hexadecimal digits.
-#[derive(Clone, Copy)]
-struct Hex(u16);
-
-/// The last hexadecimal digit of a number.
-fn hex_digit(n: u16) -> char
-    ensures { result ≡ hex_digit n }
-{
-    let digit = (n % 16) as u8;
-    if digit < 10 {
-        char::from(b'0' + digit)
-    } else {
-        char::from(b'a' + (digit - 10))
-    }
-}
-
-impl fmt::Display for Hex {
-    ghost output = { λ h. Some (hex_text h.0) };
-
-    fn fmt<W: fmt::Write>(&self, f: &mut fmt::Formatter<W>) -> fmt::Result {
-        let a = hex_digit(self.0 / 4096);
-        let b = hex_digit(self.0 / 256);
-        let c = hex_digit(self.0 / 16);
-        let d = hex_digit(self.0);
-        write!(f, "{a}{b}{c}{d}")
-    }
-}
-
 impl fmt::Display for Answer {
     ghost output = { λ a. Some (text (told a)) };
 
+    #[tactic(auto, using(crate::proofs::Digits::padded_group))]
     fn fmt<W: fmt::Write>(&self, f: &mut fmt::Formatter<W>) -> fmt::Result {
         match *self {
             Answer::Done => write!(f, "ok"),
@@ -44,12 +17,26 @@ impl fmt::Display for Answer {
                 let question = refusal.number();
                 match refusal.group() {
                     None => write!(f, "{question}"),
-                    Some(group) => {
-                        let group = Hex(group);
-                        write!(f, "{question} {group}")
-                    }
+                    Some(group) => write!(f, "{question} {group:04x}"),
                 }
             }
         }
+    }
+}
+
+/// An answer behind the number of its line.
+#[derive(Clone, Copy)]
+pub struct Numbered {
+    pub line: u64,
+    pub answer: Answer,
+}
+
+impl fmt::Display for Numbered {
+    ghost output = { λ n. Some (numbered n.line (told n.answer)) };
+
+    fn fmt<W: fmt::Write>(&self, f: &mut fmt::Formatter<W>) -> fmt::Result {
+        let line = self.line;
+        let answer = self.answer;
+        write!(f, "{line} {answer}")
     }
 }

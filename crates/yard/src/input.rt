@@ -1,46 +1,12 @@
-ghost use Rattle.std.specs.Prelude.{◌≡◌, ℕ, ◌<◌, ◌≤◌, false, ◌++◌, length, take, is_ok, if◌then◌else◌, vec_len, ◌≢◌, slice_index};
+ghost use Rattle.std.specs.Prelude.{◌≡◌, ◌≤◌, ◌++◌, take, is_ok, if◌then◌else◌, vec_len};
 
+use memchr::memchr;
 use std::alloc::AllocError;
 use std::io;
 use std::io::{BufRead, ErrorKind};
 
 /// As much of a line as is kept: one byte past the longest that can be a call.
 const KEPT: usize = 4097;
-
-/// How many bytes are looked at in one step for the end of a line.
-const STEP: usize = 32;
-
-/// Tells whether a line ends in these bytes. Looking at all of them, whatever was found, is quicker.
-fn has_end(bytes: &[u8]) -> bool
-    ensures { result ≡ false → (k : ℕ) → k < length bytes.now → slice_index bytes.now k ≢ 10 }
-{
-    let mut found = false;
-    for &byte in bytes {
-        found |= byte == b'\n';
-    }
-    found
-}
-
-/// How many bytes stand before the first line end, or all of them.
-fn before_end(bytes: &[u8]) -> usize
-    ensures within { result ≤ length bytes.now }
-    ensures before { (k : ℕ) → k < result → slice_index bytes.now k ≢ 10 }
-    ensures found { result < length bytes.now → slice_index bytes.now result ≡ 10 }
-{
-    let mut start = 0;
-    while bytes.len() - start >= STEP {
-        if has_end(&bytes[start..start + STEP]) {
-            break;
-        }
-        start += STEP;
-    }
-    for i in start..bytes.len() {
-        if bytes[i] == b'\n' {
-            return i;
-        }
-    }
-    bytes.len()
-}
 
 /// Adds a part of a line, as far as it is kept.
 fn add_part(line: &mut Vec<u8>, part: &[u8]) -> Result<(), AllocError>
@@ -50,7 +16,7 @@ fn add_part(line: &mut Vec<u8>, part: &[u8]) -> Result<(), AllocError>
 {
     let room = KEPT - line.len();
     let n = part.len().min(room);
-    line.extend_from_slice(&part[0..n])
+    line.extend_from_slice(&part[..n])
 }
 
 /// Reads the next line without its end, and answers whether there was one.
@@ -62,25 +28,25 @@ pub fn next_line<R: BufRead>(input: &mut R, line: &mut Vec<u8>) -> io::Result<bo
     for _ in 0..u64::MAX {
         let held = match input.fill_buf() {
             Ok(held) => held,
-            Err(e) => {
-                if e.kind() == ErrorKind::Interrupted {
-                    continue;
-                }
-                return Err(e);
-            }
+            Err(e) if e.kind() == ErrorKind::Interrupted => continue,
+            Err(e) => return Err(e),
         };
         if held.is_empty() {
             return Ok(begun);
         }
         begun = true;
-        let end = before_end(held);
-        let done = end < held.len();
-        add_part(line, &held[0..end])?;
-        if done {
-            input.consume(end + 1);
-            return Ok(true);
+        match memchr(b'\n', held) {
+            Some(end) => {
+                add_part(line, &held[..end])?;
+                input.consume(end + 1);
+                return Ok(true);
+            }
+            None => {
+                let count = held.len();
+                add_part(line, held)?;
+                input.consume(count);
+            }
         }
-        input.consume(end);
     }
     Ok(false)
 }

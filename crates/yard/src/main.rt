@@ -10,7 +10,7 @@ use arguments::{Wanted, read_arguments};
 use input::next_line;
 use lines::obey;
 use monitor::Monitor;
-use output::{Output, open_output};
+use output::Output;
 use std::io::BufReader;
 
 const HELP: &str =
@@ -26,7 +26,7 @@ const HELP: &str =
 
 const VERSION: &str = "yard 0.1.0";
 
-fn run(rt: &HostRuntime, mut output: Output, explain: bool) -> anyhow::Result<()> {
+fn run(rt: &HostRuntime, mut output: Output) -> anyhow::Result<()> {
     let mut input = BufReader::new(rt.alloc(), rt.stdin())?;
     let mut monitor = Monitor::new();
     let mut line = Vec::new(rt.alloc());
@@ -39,7 +39,7 @@ fn run(rt: &HostRuntime, mut output: Output, explain: bool) -> anyhow::Result<()
             break;
         }
         let answer = obey(&mut monitor, line.as_slice());
-        output.note(number, line.as_slice(), answer, explain)?;
+        output.note(number, line.as_slice(), answer)?;
     }
     output.flush()?;
     Ok(())
@@ -50,8 +50,8 @@ fn start(rt: &HostRuntime) -> anyhow::Result<()> {
         Wanted::Help => print!(rt; "{HELP}")?,
         Wanted::Version => println!(rt; "{VERSION}")?,
         Wanted::Run { docket, explain } => {
-            let output = open_output(rt, docket)?;
-            run(rt, output, explain)?;
+            let output = Output::open(rt, docket, explain)?;
+            run(rt, output)?;
         }
     }
     Ok(())

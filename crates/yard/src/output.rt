@@ -1,5 +1,5 @@
 use crate::meaning::meaning;
-use answer::{Answer, Text};
+use answer::{Answer, Numbered};
 use filing::file_line;
 use std::fs::File;
 use std::io;
@@ -8,54 +8,58 @@ use std::io::{Stdout, Write};
 /// As much text as is held back before it is printed.
 const FULL: usize = 65536;
 
+/// A docket's file, and the entries that are not in it yet.
+#[derive(Drop)]
+struct Docket {
+    file: File,
+    entries: Vec<u8>,
+}
+
 /// Where answers and docket entries go. Entries are in the file before their answers are printed.
 #[derive(Drop)]
 pub struct Output {
     out: Stdout,
-    file: Option<File>,
-    entries: Vec<u8>,
-    answers: Vec<u8>,
-    /// The answer to the line at hand.
-    text: Text,
-}
-
-/// The output of a run, with a new docket file if one is named.
-pub fn open_output(rt: &HostRuntime, docket: Option<String>) -> anyhow::Result<Output> {
-    let file = match docket {
-        Some(name) => Some(File::create_new(rt, name.as_str())?),
-        None => None,
-    };
-    Ok(Output {
-        out: rt.stdout(),
-        file,
-        entries: Vec::new(rt.alloc()),
-        answers: Vec::new(rt.alloc()),
-        text: Text::new(),
-    })
+    docket: Option<Docket>,
+    answers: String,
+    /// Adds to each refusal what it means.
+    explain: bool,
 }
 
 impl Output {
+    /// The output of a run, with a new docket file if one is named.
+    pub fn open(rt: &HostRuntime, docket: Option<String>, explain: bool) -> anyhow::Result<Output> {
+        let docket = match docket {
+            Some(name) => Some(Docket {
+                file: File::create_new(rt, name.as_str())?,
+                entries: Vec::new(rt.alloc()),
+            }),
+            None => None,
+        };
+        Ok(Output {
+            out: rt.stdout(),
+            docket,
+            answers: String::new(rt.alloc()),
+            explain,
+        })
+    }
+
     /// Takes in the answer to a line, and what the line leaves in the docket.
-    pub fn note(
-        &mut self,
-        number: u64,
-        line: &[u8],
-        answer: Answer,
-        explain: bool,
-    ) -> anyhow::Result<()> {
-        if self.file.is_some() {
+    pub fn note(&mut self, number: u64, line: &[u8], answer: Answer) -> anyhow::Result<()> {
+        if let Some(docket) = &mut self.docket {
             let filed = file_line(line, answer);
-            self.entries.extend_from_slice(filed.as_slice())?;
+            docket.entries.extend_from_slice(filed.as_slice())?;
         }
-        self.text.set_numbered(number, answer);
-        self.answers.extend_from_slice(self.text.as_slice())?;
-        if explain {
-            if let Answer::Refused(refusal) = answer {
-                self.answers.push(b' ')?;
-                self.answers.extend_from_slice(meaning(refusal).as_bytes())?;
+        let numbered = Numbered {
+            line: number,
+            answer,
+        };
+        match answer {
+            Answer::Refused(refusal) if self.explain => {
+                let meaning = meaning(refusal);
+                writeln!(self.answers, "{numbered} {meaning}")?;
             }
+            _ => writeln!(self.answers, "{numbered}")?,
         }
-        self.answers.push(b'\n')?;
         if self.answers.len() >= FULL {
             self.flush()?;
         }
@@ -64,11 +68,11 @@ impl Output {
 
     /// Writes the entries to the docket, and then prints the answers.
     pub fn flush(&mut self) -> io::Result<()> {
-        if let Some(file) = &mut self.file {
-            file.write_all(self.entries.as_slice())?;
+        if let Some(docket) = &mut self.docket {
+            docket.file.write_all(docket.entries.as_slice())?;
+            docket.entries.clear();
         }
-        self.entries.clear();
-        self.out.write_all(self.answers.as_slice())?;
+        self.out.write_all(self.answers.as_bytes())?;
         self.answers.clear();
         Ok(())
     }

@@ -1,27 +1,26 @@
-use Rattle.std.proofs.Common.{◌≡◌, ℕ, zero, suc, ◌-◌, ◌≤◌, min, cond, List, [], ◌∷◌, ◌++◌, length, take, is_ok, vec_items, sym, ap, ◌∙◌, inl, inr, arith, rules}
-use native.Mathlib.Nat.{sub-zero}
+use Rattle.std.proofs.Common.{◌≡◌, ℕ, ◌+◌, ◌-◌, ◌≤◌, min, cond, List, ◌++◌, length, take, is_ok, vec_items, sym, ap, ◌∙◌, inl, inr, arith}
+use Rattle.std.proofs.Math.Seq.{take-append-add}
 use Rattle.std.proofs.lemmas.List.{take_all}
 use Rattle.std.proofs.lemmas.Bool.{cases_lt}
 use Rattle.yard.proofs.input.add_part.Goals as goal
 
--- as much of a part as there is room for, behind what is there
-filled : (xs ys : List ℕ) (m n : ℕ) → length xs ≤ m → n ≡ min (length ys) (m - length xs) → xs ++ take n ys ≡ take m (xs ++ ys)
-filled [] ys m n l e =
-    elim (cases_lt m (length ys)) [
-      | inl h ↦ let same : n ≡ m = omega arith in ap (λ (k : ℕ). take k ys) same
-      | inr h ↦ take_all n ys (omega arith) ∙ sym (take_all m ys h)
+-- as much of a list as there is room for
+fitting : (ys : List ℕ) (room : ℕ) → take (min (length ys) room) ys ≡ take room ys
+fitting ys room =
+    elim (cases_lt room (length ys)) [
+      | inl h ↦ let same : min (length ys) room ≡ room = omega arith in ap (λ k. take k ys) same
+      | inr h ↦ take_all (min (length ys) room) ys (omega arith) ∙ sym (take_all room ys h)
     ]
-filled (x ∷ xs) ys zero n l e = absurd (omega (arith, l))
-filled (x ∷ xs) ys (suc m) n l e = ap (λ (r : List ℕ). x ∷ r) (filled xs ys m n (omega arith) (omega arith))
 
-pub returns : goal.returns
-returns c =
+fitted : (xs ys : List ℕ) (n : ℕ) → length xs ≤ 4097 → n ≡ min (length ys) (4097 - length xs) → xs ++ take n ys ≡ take 4097 (xs ++ ys)
+fitted xs ys n small is =
+    let whole : length xs + (4097 - length xs) ≡ 4097 = omega arith in
+    ap (λ k. xs ++ take k ys) is ∙ ap (λ r. xs ++ r) (fitting ys (4097 - length xs)) ∙ sym (take-append-add xs ys (4097 - length xs))
+    ∙ ap (λ k. take k (xs ++ ys)) whole
+
+pub returns-clause-added : goal.returns-clause-added
+returns-clause-added c =
     let xs = vec_items c.args.line.now in
-    let ys = c.args.part.now in
-    let n = c.min-n.result in
-    record {
-      small = search rules;
-      added =
-          c.extend_from_slice.ensures.items
-          ∙ ap (λ (l : List ℕ). cond (is_ok c.extend_from_slice.result) l xs) (ap (λ (k : ℕ). xs ++ take k ys) (sub-zero n) ∙ filled xs ys 4097 n (omega (arith, c.args.line.now.ok.0)) (omega (arith, c.min-n.ensures, c.len-room.ensures, c.args.line.now.ok.0)));
-    }
+    let length_is = c.args.line.now.ok.0 in
+    let added = fitted xs c.args.part.now c.min-n.result (omega (arith, length_is)) (omega (arith, length_is)) in
+    c.extend_from_slice.ensures.items ∙ ap (λ l. cond (is_ok c.extend_from_slice.result) l xs) added
