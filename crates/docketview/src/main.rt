@@ -2,7 +2,7 @@
 //! the new formula. Where the bytes are damaged it says where and by which question, and stops.
 #![tactic(auto)]
 
-use answer::{Answer, Text};
+use answer::Answer;
 use anyhow::anyhow;
 use docket::{Entry, Read, read_entry};
 use formula::Formula;
@@ -47,15 +47,8 @@ fn add_entry(text: &mut Vec<u8>, place: u64, entry: Entry) -> anyhow::Result<()>
     let kind = kind_name(entry.kind);
     let task = entry.task;
     let record = entry.record;
-    let answer = match entry.answer {
-        Ok(()) => Answer::Done,
-        Err(refusal) => Answer::Refused(refusal),
-    };
-    write!(text, "{place} {kind} {task} {record} ")?;
-    let mut answer_text = Text::new();
-    answer_text.set_answer(answer);
-    text.extend_from_slice(answer_text.as_slice())?;
-    text.push(b' ')?;
+    let answer = Answer::from(entry.answer);
+    write!(text, "{place} {kind} {task} {record} {answer} ")?;
     add_formula(text, entry.new)?;
     text.push(b'\n')?;
     Ok(())
