@@ -71,9 +71,5 @@ pub fn obey(monitor: &mut Monitor, line: &[u8]) -> Answer
     let Some(call) = parse(line) else {
         return Answer::Refused(Refusal::NoForm);
     };
-    match make(monitor, call) {
-        Ok(None) => Answer::Done,
-        Ok(Some(figure)) => Answer::Figure(figure),
-        Err(refusal) => Answer::Refused(refusal),
-    }
+    Answer::from(make(monitor, call))
 }
