@@ -3,6 +3,7 @@ ghost use Rattle.answer.specs.Told.{told};
 ghost use Rattle.answer.specs.Text.{text, numbered};
 
 use crate::Answer;
+use itoa::Buffer;
 use std::fmt;
 
 impl fmt::Display for Answer {
@@ -35,8 +36,10 @@ impl fmt::Display for Numbered {
     ghost output = { λ n. Some (numbered n.line (told n.answer)) };
 
     fn fmt<W: fmt::Write>(&self, f: &mut fmt::Formatter<W>) -> fmt::Result {
-        let line = self.line;
+        // quicker than `{line}`, and there is one for each line that is answered
+        let mut digits = Buffer::new();
+        f.write_str(digits.format(self.line))?;
         let answer = self.answer;
-        write!(f, "{line} {answer}")
+        write!(f, " {answer}")
     }
 }

@@ -53,13 +53,14 @@ impl Output {
             line: number,
             answer,
         };
-        match answer {
-            Answer::Refused(refusal) if self.explain => {
-                let meaning = meaning(refusal);
-                writeln!(self.answers, "{numbered} {meaning}")?;
-            }
-            _ => writeln!(self.answers, "{numbered}")?,
+        write!(self.answers, "{numbered}")?;
+        if self.explain
+            && let Answer::Refused(refusal) = answer
+        {
+            self.answers.push(' ')?;
+            self.answers.push_str(meaning(refusal))?;
         }
+        self.answers.push('\n')?;
         if self.answers.len() >= FULL {
             self.flush()?;
         }
