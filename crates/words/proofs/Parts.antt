@@ -1,9 +1,8 @@
--- Parting a row of bytes, one cut at a time.
-use Rattle.std.proofs.Common.{◌≡◌, ℕ, suc, ◌<◌, false, List, [], ◌∷◌, ◌++◌, length, Some, None, Option, sym, refl, ap, ◌∙◌, arith, length-append, Bor}
+-- Parting a row of bytes, by one cut or by all.
+use Rattle.std.proofs.Common.{◌≡◌, ℕ, suc, eqb, List, [], ◌∷◌, ◌++◌, Some, None, Option, sym, refl, ap, ◌∙◌, arith, Bor}
+use Rattle.std.specs.List.{slice_split, onto_first}
 use Rattle.std.proofs.lemmas.Bool.{eq-eqb, ne_eqb, cond-true, cond-false}
 use Rattle.words.specs.Parted.{parted, before, Without, Cut}
-use Rattle.words.specs.Hex.{hex_four}
-use Rattle.words.specs.Formulas.{hex_all, cons_some, is_some}
 
 pub parted_some : (sep : ℕ) (word rest : List ℕ) → Without sep word → parted sep (word ++ (sep ∷ rest)) ≡ word ∷ parted sep rest
 parted_some sep [] rest h = cond-true _ _ _ (eq-eqb sep sep refl)
@@ -24,19 +23,13 @@ pub cut_parts : (sep : ℕ) (line word : List ℕ) (o : Option (Bor (List ℕ)))
 cut_parts sep line word None c = ap (parted sep) (sym c.0) ∙ parted_none sep word c.1
 cut_parts sep line word (Some r) c = ap (parted sep) c.0 ∙ parted_some sep word r.now c.1
 
-is_some_cons : (c : ℕ) (o : Option (List ℕ)) → is_some (cons_some (Some c) o) ≡ is_some o
-is_some_cons c None = refl
-is_some_cons c (Some cs) = refl
+before_is : (b : ℕ) (ws : List (List ℕ)) → onto_first b ws ≡ before b ws
+before_is b [] = refl
+before_is b (w ∷ ws) = refl
 
-pub hex_none : (line part : List ℕ) (o : Option (Bor (List ℕ))) → Cut 46 line part o → hex_four part ≡ None → is_some (hex_all (parted 46 line)) ≡ false
-hex_none line part o c e =
-    ap (λ (ws : List (List ℕ)). is_some (hex_all ws)) (cut_parts 46 line part o c) ∙ ap (λ (x : Option ℕ). is_some (cons_some x (hex_all (parts_of 46 o)))) e
-
-pub hex_more : (line part : List ℕ) (o : Option (Bor (List ℕ))) (x : ℕ) → Cut 46 line part o → hex_four part ≡ Some x
-    → is_some (hex_all (parted 46 line)) ≡ is_some (hex_all (parts_of 46 o))
-hex_more line part o x c e =
-    ap (λ (ws : List (List ℕ)). is_some (hex_all ws)) (cut_parts 46 line part o c)
-    ∙ (ap (λ (y : Option ℕ). is_some (cons_some y (hex_all (parts_of 46 o)))) e ∙ is_some_cons x (hex_all (parts_of 46 o)))
-
-pub cut_shorter : (sep : ℕ) (line word : List ℕ) (r : Bor (List ℕ)) → Cut sep line word (Some r) → length r.now < length line
-cut_shorter sep line word r c = omega (arith, ap length c.0, length-append word (sep ∷ r.now))
+-- the library's word for the parts
+pub parted_is : (sep : ℕ) (bs : List ℕ) → slice_split (λ b. eqb b sep) bs ≡ parted sep bs
+parted_is sep [] = refl
+parted_is sep (b ∷ bs) =
+    let ih = parted_is sep bs in
+    rw ih (rw before_is refl)

@@ -1,19 +1,10 @@
 -- Formulas as a line writes them.
-use Rattle.std.specs.Prelude.{ℕ, Bool, true, false, cond, List, [], ◌∷◌, Some, None, Option, ◌==◌}
+use Rattle.std.specs.Prelude.{ℕ, Bool, false, cond, List, [], ◌∷◌, Some, None, Option, ◌==◌}
+use Rattle.words.specs.declared.clauses.ClausesWord.{ClausesWord}
 use Rattle.words.specs.declared.clauses.FormulaWord.{FormulaWord}
 use Rattle.words.specs.declared.clauses.FormulaWord.TheVariants.{True, Clauses}
-use Rattle.words.specs.Hex.{hex_four}
 use Rattle.words.specs.Parted.{parted}
-
-abbrev pub cons_some : Option ℕ → Option (List ℕ) → Option (List ℕ)
-cons_some None cs = None
-cons_some (Some c) None = None
-cons_some (Some c) (Some cs) = Some (c ∷ cs)
-
--- each part is a clause of four hexadecimal digits
-abbrev pub hex_all : List (List ℕ) → Option (List ℕ)
-hex_all [] = Some []
-hex_all (p ∷ ps) = cons_some (hex_four p) (hex_all ps)
+use Rattle.words.specs.Clauses.{hex_all, or_none}
 
 abbrev pub is_truth : List ℕ → Bool
 is_truth [] = false
@@ -24,18 +15,14 @@ is_truth (a ∷ b ∷ r) = false
 abbrev pub formula_of : List ℕ → Option (List ℕ)
 formula_of w = cond (is_truth w) (Some []) (hex_all (parted 46 w))
 
-abbrev pub or_none : Option (List ℕ) → List ℕ
-or_none None = []
-or_none (Some cs) = cs
-
-abbrev pub is_some : Option (List ℕ) → Bool
-is_some None = false
-is_some (Some x) = true
+-- the clauses that stand in a part of a line
+abbrev pub clauses_in : ClausesWord → List ℕ
+clauses_in w = or_none (hex_all (parted 46 w.part.now))
 
 -- the clauses that a formula word writes
 abbrev pub written : FormulaWord → List ℕ
 written True = []
-written (Clauses part) = or_none (hex_all (parted 46 part.now))
+written (Clauses w) = clauses_in w
 
 abbrev pub written_in : Option FormulaWord → Option (List ℕ)
 written_in None = None

@@ -1,6 +1,6 @@
 pub mod Hex
 pub mod Decimal
 pub mod Parted
+pub mod Clauses
 pub mod Formulas
-pub mod Gathers
 pub mod Modes

@@ -2,14 +2,11 @@ ghost use Rattle.std.specs.Prelude.{◌≡◌, ◌<◌, IfSome};
 ghost use Rattle.words.specs.Decimal.{decimal, digit_of};
 
 /// The value of a decimal digit.
-fn digit(byte: u8) -> Option<u8>
+fn digit(byte: u8) -> Option<u32>
     ensures value { result ≡ digit_of byte }
     ensures small { IfSome result (λ d. d < 10) }
 {
-    match byte {
-        b'0'..=b'9' => Some(byte - b'0'),
-        _ => None,
-    }
+    char::from(byte).to_digit(10)
 }
 
 /// The number that 1 to 10 decimal digits write.
@@ -21,8 +18,7 @@ pub fn number(word: &[u8]) -> Option<u64>
     }
     let mut n = 0u64;
     for &byte in word {
-        let d = digit(byte)?;
-        n = 10 * n + u64::from(d);
+        n = 10 * n + u64::from(digit(byte)?);
     }
     Some(n)
 }

@@ -2,6 +2,7 @@ ghost use Rattle.std.specs.Prelude.{◌≡◌};
 ghost use Rattle.words.specs.Hex.{hex_digit, hex_four};
 
 /// The value of a lowercase hexadecimal digit.
+// By hand, as `to_digit` takes capitals too.
 fn hex_digit(byte: u8) -> Option<u8>
     ensures { result ≡ hex_digit byte }
 {
