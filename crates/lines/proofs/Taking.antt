@@ -3,8 +3,9 @@ use Rattle.std.proofs.Common.{◌≡◌, ℕ, Bool, true, false, eqb, List, [], 
 use Rattle.std.proofs.lemmas.Bool.{cond-true, cond-false}
 use Rattle.words.specs.Parted.{parted, before, Cut}
 use Rattle.words.proofs.Parts.{cut_parts, parts_of}
-use Rattle.lines.specs.Forms.{Words, Form, given, ends}
-use Rattle.lines.specs.Left.{left_of, Took, Taken}
+use Rattle.lines.specs.Forms.{Words, Form, ends}
+use Rattle.lines.specs.Rest.{left_of}
+use Rattle.lines.specs.Left.{Took}
 
 same_left : (o : Option (Bor (List ℕ))) → parts_of 32 o ≡ left_of o
 same_left None = refl
@@ -14,17 +15,6 @@ pub took : (ws : Words) (line : List ℕ) (v : Bor (List ℕ)) (o : Option (Bor 
     → Took ws (Some v) (left_of o)
 took ws line v o e c =
     subst (λ (x : Words). Took x (Some v) (left_of o)) (sym (e ∙ (cut_parts 32 line v.now o c ∙ ap (λ (r : Words). v.now ∷ r) (same_left o)))) (refl, refl)
-
-pub taken : {A : Type 0} (kind : List ℕ → Option A) (ws : Words) (v : Bor (List ℕ)) (after : Words) (r : Option A) → Took ws (Some v) after → r ≡ kind v.now
-    → Taken kind ws r after
-taken kind [] v after r p e = absurd p
-taken kind (w ∷ ws) v after None p e = λ next. ap (λ x. given x (λ y. next y ws)) (ap kind (sym p.0) ∙ sym e)
-taken kind (w ∷ ws) v after (Some x) p e =
-    λ next. ap (λ x. given x (λ y. next y ws)) (ap kind (sym p.0) ∙ sym e) ∙ ap (next x) (sym p.1)
-
-pub none_taken : {A : Type 0} (kind : List ℕ → Option A) (ws after : Words) → Took ws None after → Taken kind ws None after
-none_taken kind [] after p = λ next. refl
-none_taken kind (w ∷ ws) after p = absurd p
 
 ends_before : (c : Form) (b : ℕ) (ws : Words) → ends c (before b ws) ≡ None
 ends_before c b [] = refl

@@ -7,8 +7,6 @@ use Rattle.words.specs.Modes.{mode_of}
 use Rattle.words.specs.Decimal.{decimal}
 use Rattle.words.specs.Formulas.{formula_of}
 use Rattle.words.specs.Parted.{parted}
-use Rattle.lines.specs.declared.call.Name.{Name}
-use Rattle.lines.specs.declared.call.Name.TheVariants.{Enter, Open, Close, Take, Put, Drop, Show, Release, Endorse}
 
 -- a key as it is written: its plain formula, and the wraps around it
 pub data KeyForm : Type 0 where
@@ -103,30 +101,24 @@ release_form ws = one decimal ws (λ t v. one decimal v (λ r u. one formula_of 
 abbrev pub endorse_form : Words → Option Form
 endorse_form ws = one decimal ws (λ t v. one decimal v (λ r u. one formula_of u (λ f s. key_form s (λ k. ends (endorses t r f k)))))
 
-abbrev pub name_of : List ℕ → Option Name
-name_of w =
-    cond (bytes_eq w (codes "enter")) (Some Enter)
-    (cond (bytes_eq w (codes "open")) (Some Open)
-    (cond (bytes_eq w (codes "close")) (Some Close)
-    (cond (bytes_eq w (codes "take")) (Some Take)
-    (cond (bytes_eq w (codes "put")) (Some Put)
-    (cond (bytes_eq w (codes "drop")) (Some Drop)
-    (cond (bytes_eq w (codes "show")) (Some Show)
-    (cond (bytes_eq w (codes "release")) (Some Release)
-    (cond (bytes_eq w (codes "endorse")) (Some Endorse)
+-- the form that the first word names
+abbrev pub form_named : List ℕ → Words → Option Form
+form_named w ws =
+    cond (bytes_eq w (codes "enter")) (enter_form ws)
+    (cond (bytes_eq w (codes "open")) (open_form ws)
+    (cond (bytes_eq w (codes "close")) (close_form ws)
+    (cond (bytes_eq w (codes "take")) (take_form ws)
+    (cond (bytes_eq w (codes "put")) (put_form ws)
+    (cond (bytes_eq w (codes "drop")) (drop_form ws)
+    (cond (bytes_eq w (codes "show")) (show_form ws)
+    (cond (bytes_eq w (codes "release")) (release_form ws)
+    (cond (bytes_eq w (codes "endorse")) (endorse_form ws)
     None))))))))
 
-abbrev pub form_for : Name → Words → Option Form
-form_for Enter ws = enter_form ws
-form_for Open ws = open_form ws
-form_for Close ws = close_form ws
-form_for Take ws = take_form ws
-form_for Put ws = put_form ws
-form_for Drop ws = drop_form ws
-form_for Show ws = show_form ws
-form_for Release ws = release_form ws
-form_for Endorse ws = endorse_form ws
+abbrev pub named_form : Words → Option Form
+named_form [] = None
+named_form (w ∷ ws) = form_named w ws
 
 -- what a line of at most 4,096 bytes writes: its words are parted by single spaces (byte 32)
 abbrev pub form_of : List ℕ → Option Form
-form_of line = cond (nat_le (length line) 4096) (one name_of (parted 32 line) form_for) None
+form_of line = cond (nat_le (length line) 4096) (named_form (parted 32 line)) None

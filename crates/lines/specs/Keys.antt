@@ -7,6 +7,7 @@ use Rattle.formula.specs.Of.{clauses_of}
 use Rattle.label.specs.declared.label.Label.{Label}
 use Rattle.key.specs.declared.plain.Plain.{Plain as PlainKey}
 use Rattle.key.specs.declared.bounded.Bounds.{Bounds}
+use Rattle.key.specs.declared.bounded.Bounded.{Bounded as BoundedKey}
 use Rattle.key.specs.Requests.{Limits, limits}
 use Rattle.key.specs.Meanings.{Meaning, plain, robust, bounded}
 use Rattle.rules.specs.State.{State}
@@ -38,12 +39,17 @@ LabelRead s h (Err q) = (t : State) (next : List ℕ → List ℕ → Ruled) →
 
 abbrev pub bounding : State → BoundsWords → (Limits → Ruled) → Ruled
 bounding t w next =
-    reducing t (written w.high_sight) (λ a. reducing t (written w.high_hand) (λ b. reducing t (written w.low_sight) (λ c. reducing t (written w.low_hand) (λ d.
+    reducing t (written w.high.sight) (λ a. reducing t (written w.high.hand) (λ b. reducing t (written w.low.sight) (λ c. reducing t (written w.low.hand) (λ d.
     next (record { high = record { sight = a; hand = b }; low = record { sight = c; hand = d } })))))
 
 abbrev pub BoundsRead : BoundsWords → Result Bounds Refusal → Type 0
 BoundsRead w (Ok b) = (t : State) (next : Limits → Ruled) → bounding t w next ≡ next (limits b)
 BoundsRead w (Err q) = (t : State) (next : Limits → Ruled) → bounding t w next ≡ refusing t q
+
+-- a key in a bounded wrap
+abbrev pub BoundedRead : {K : Type 0} → K → BoundsWords → Result (BoundedKey K) Refusal → Type 0
+BoundedRead below w (Ok k) = (k.below ≡ below) × (k.mode ≡ w.mode) × BoundsRead w (Ok k.bounds)
+BoundedRead below w (Err q) = BoundsRead w (Err q)
 
 abbrev pub KeyRead : KeyForm → Result LineKey Refusal → Type 0
 KeyRead k (Ok key) = (t : State) (next : Meaning → Ruled) → with_key t k next ≡ next (line_meaning key)

@@ -1,4 +1,5 @@
 pub mod Forms
+pub mod Rest
 pub mod Left
 pub mod Obey
 pub mod Keys

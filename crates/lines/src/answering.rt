@@ -6,9 +6,9 @@ ghost use Rattle.lines.specs.Obey.{obeying, line_ruled, values};
 
 use crate::call::Call;
 use crate::forms::parse;
-use crate::reading::read_key;
+use crate::reading::{read_key, read_label};
 use answer::{Answer, Refusal};
-use label::{Hand, Label, Sight};
+use label::Kind;
 use monitor::Monitor;
 use words::read_formula;
 
@@ -22,13 +22,8 @@ fn make(monitor: &mut Monitor, call: Call<'_>) -> Result<Option<u32>, Refusal>
             record,
             party,
             figure,
-            sight,
-            hand,
-        } => {
-            let sight = Sight(read_formula(sight)?);
-            let hand = Hand(read_formula(hand)?);
-            monitor.enter(record, party, figure, Label { sight, hand })?;
-        }
+            label,
+        } => monitor.enter(record, party, figure, read_label(label)?)?,
         Call::Open { task, party } => monitor.open(task, party)?,
         Call::Close { task } => monitor.close(task)?,
         Call::Take {
@@ -39,7 +34,8 @@ fn make(monitor: &mut Monitor, call: Call<'_>) -> Result<Option<u32>, Refusal>
         Call::Put { task, record } => monitor.put(task, record)?,
         Call::Drop { task, record } => monitor.drop(task, record)?,
         Call::Show { record, group } => return Ok(Some(monitor.show(record, group)?)),
-        Call::Release {
+        Call::Change {
+            kind,
             task,
             record,
             new,
@@ -47,17 +43,10 @@ fn make(monitor: &mut Monitor, call: Call<'_>) -> Result<Option<u32>, Refusal>
         } => {
             let new = read_formula(new)?;
             let key = read_key(key)?;
-            monitor.release(task, record, new, &key)?;
-        }
-        Call::Endorse {
-            task,
-            record,
-            new,
-            key,
-        } => {
-            let new = read_formula(new)?;
-            let key = read_key(key)?;
-            monitor.endorse(task, record, new, &key)?;
+            match kind {
+                Kind::Release => monitor.release(task, record, new, &key)?,
+                Kind::Endorse => monitor.endorse(task, record, new, &key)?,
+            }
         }
     }
     Ok(None)

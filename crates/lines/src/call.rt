@@ -1,37 +1,28 @@
 use key::Mode;
+use label::Kind;
 use words::FormulaWord;
 
-/// The names of the calls.
+/// The words of a label.
 #[derive(Clone, Copy)]
-pub enum Name {
-    Enter,
-    Open,
-    Close,
-    Take,
-    Put,
-    Drop,
-    Show,
-    Release,
-    Endorse,
+pub struct LabelWords<'a> {
+    pub sight: FormulaWord<'a>,
+    pub hand: FormulaWord<'a>,
 }
 
 /// The words that a bounded wrap adds to a key.
 #[derive(Clone, Copy)]
 pub struct BoundsWords<'a> {
     pub mode: Mode,
-    pub high_sight: FormulaWord<'a>,
-    pub high_hand: FormulaWord<'a>,
-    pub low_sight: FormulaWord<'a>,
-    pub low_hand: FormulaWord<'a>,
+    pub high: LabelWords<'a>,
+    pub low: LabelWords<'a>,
 }
 
-/// A key as a line writes it, by its code.
+/// A key as a line writes it: its plain formula, and what the wraps that it has add.
 #[derive(Clone, Copy)]
-pub enum KeyWords<'a> {
-    Plain(FormulaWord<'a>),
-    Robust(FormulaWord<'a>, Mode),
-    Bounded(FormulaWord<'a>, BoundsWords<'a>),
-    BoundedRobust(FormulaWord<'a>, Mode, BoundsWords<'a>),
+pub struct KeyWords<'a> {
+    pub plain: FormulaWord<'a>,
+    pub robust: Option<Mode>,
+    pub bounds: Option<BoundsWords<'a>>,
 }
 
 /// A call as a line writes it. Its formulas are the parts of the line where they stand.
@@ -41,8 +32,7 @@ pub enum Call<'a> {
         record: u64,
         party: u64,
         figure: u64,
-        sight: FormulaWord<'a>,
-        hand: FormulaWord<'a>,
+        label: LabelWords<'a>,
     },
     Open {
         task: u64,
@@ -68,13 +58,9 @@ pub enum Call<'a> {
         record: u64,
         group: u16,
     },
-    Release {
-        task: u64,
-        record: u64,
-        new: FormulaWord<'a>,
-        key: KeyWords<'a>,
-    },
-    Endorse {
+    /// A release or an endorsement, by its kind.
+    Change {
+        kind: Kind,
         task: u64,
         record: u64,
         new: FormulaWord<'a>,

@@ -1,55 +1,55 @@
 ghost use Rattle.std.specs.Prelude.{◌≡◌};
-ghost use Rattle.lines.specs.Forms.{enter_form, open_form, close_form, take_form, put_form, drop_form, show_form, release_form, endorse_form, form_of};
-ghost use Rattle.lines.specs.Left.{left, say_in};
+ghost use Rattle.std.specs.Str.{bytes_eq};
+ghost use Rattle.lines.specs.Forms.{puts, drops, enter_form, open_form, close_form, take_form, put_form, drop_form, show_form, form_of};
+ghost use Rattle.lines.specs.Left.{pair_said, change_form, say_in};
 
-use crate::call::{Call, Name};
+use crate::call::Call;
 use crate::words_left::WordsLeft;
+use label::Kind;
 
 /// The longest line that is read as a call.
 const LONGEST: usize = 4096;
 
-fn enter<'a>(line: &mut WordsLeft<'a>) -> Option<Call<'a>>
-    ensures { say_in result ≡ enter_form (left line.old) }
+fn enter<'a>(words: &mut WordsLeft<'a>) -> Option<Call<'a>>
+    ensures { say_in result ≡ enter_form words.old }
 {
-    let record = line.number()?;
-    let party = line.number()?;
-    let figure = line.number()?;
-    let sight = line.formula()?;
-    let hand = line.formula()?;
-    line.end()?;
+    let record = words.number()?;
+    let party = words.number()?;
+    let figure = words.number()?;
+    let label = words.label()?;
+    words.end()?;
     Some(Call::Enter {
         record,
         party,
         figure,
-        sight,
-        hand,
+        label,
     })
 }
 
-fn open<'a>(line: &mut WordsLeft<'a>) -> Option<Call<'a>>
-    ensures { say_in result ≡ open_form (left line.old) }
+fn open<'a>(words: &mut WordsLeft<'a>) -> Option<Call<'a>>
+    ensures { say_in result ≡ open_form words.old }
 {
-    let task = line.number()?;
-    let party = line.number()?;
-    line.end()?;
+    let task = words.number()?;
+    let party = words.number()?;
+    words.end()?;
     Some(Call::Open { task, party })
 }
 
-fn close<'a>(line: &mut WordsLeft<'a>) -> Option<Call<'a>>
-    ensures { say_in result ≡ close_form (left line.old) }
+fn close<'a>(words: &mut WordsLeft<'a>) -> Option<Call<'a>>
+    ensures { say_in result ≡ close_form words.old }
 {
-    let task = line.number()?;
-    line.end()?;
+    let task = words.number()?;
+    words.end()?;
     Some(Call::Close { task })
 }
 
-fn take<'a>(line: &mut WordsLeft<'a>) -> Option<Call<'a>>
-    ensures { say_in result ≡ take_form (left line.old) }
+fn take<'a>(words: &mut WordsLeft<'a>) -> Option<Call<'a>>
+    ensures { say_in result ≡ take_form words.old }
 {
-    let task = line.number()?;
-    let record = line.number()?;
-    let manner = line.number()?;
-    line.end()?;
+    let task = words.number()?;
+    let record = words.number()?;
+    let manner = words.number()?;
+    words.end()?;
     Some(Call::Take {
         task,
         record,
@@ -57,42 +57,36 @@ fn take<'a>(line: &mut WordsLeft<'a>) -> Option<Call<'a>>
     })
 }
 
-fn put<'a>(line: &mut WordsLeft<'a>) -> Option<Call<'a>>
-    ensures { say_in result ≡ put_form (left line.old) }
+/// A task and a record, and nothing else.
+fn task_and_record(words: &mut WordsLeft<'_>) -> Option<(u64, u64)>
+    ensures puts { pair_said puts result ≡ put_form words.old }
+    ensures drops { pair_said drops result ≡ drop_form words.old }
 {
-    let task = line.number()?;
-    let record = line.number()?;
-    line.end()?;
-    Some(Call::Put { task, record })
+    let task = words.number()?;
+    let record = words.number()?;
+    words.end()?;
+    Some((task, record))
 }
 
-fn drop_record<'a>(line: &mut WordsLeft<'a>) -> Option<Call<'a>>
-    ensures { say_in result ≡ drop_form (left line.old) }
+fn show<'a>(words: &mut WordsLeft<'a>) -> Option<Call<'a>>
+    ensures { say_in result ≡ show_form words.old }
 {
-    let task = line.number()?;
-    let record = line.number()?;
-    line.end()?;
-    Some(Call::Drop { task, record })
-}
-
-fn show<'a>(line: &mut WordsLeft<'a>) -> Option<Call<'a>>
-    ensures { say_in result ≡ show_form (left line.old) }
-{
-    let record = line.number()?;
-    let group = line.group()?;
-    line.end()?;
+    let record = words.number()?;
+    let group = words.group()?;
+    words.end()?;
     Some(Call::Show { record, group })
 }
 
-fn release<'a>(line: &mut WordsLeft<'a>) -> Option<Call<'a>>
-    ensures { say_in result ≡ release_form (left line.old) }
+fn change<'a>(kind: Kind, words: &mut WordsLeft<'a>) -> Option<Call<'a>>
+    ensures { say_in result ≡ change_form kind words.old }
 {
-    let task = line.number()?;
-    let record = line.number()?;
-    let new = line.formula()?;
-    let key = line.key()?;
-    line.end()?;
-    Some(Call::Release {
+    let task = words.number()?;
+    let record = words.number()?;
+    let new = words.formula()?;
+    let key = words.key()?;
+    words.end()?;
+    Some(Call::Change {
+        kind,
         task,
         record,
         new,
@@ -100,20 +94,10 @@ fn release<'a>(line: &mut WordsLeft<'a>) -> Option<Call<'a>>
     })
 }
 
-fn endorse<'a>(line: &mut WordsLeft<'a>) -> Option<Call<'a>>
-    ensures { say_in result ≡ endorse_form (left line.old) }
+fn is_name(word: &[u8], name: &[u8]) -> bool
+    ensures { result ≡ bytes_eq word.now name.now }
 {
-    let task = line.number()?;
-    let record = line.number()?;
-    let new = line.formula()?;
-    let key = line.key()?;
-    line.end()?;
-    Some(Call::Endorse {
-        task,
-        record,
-        new,
-        key,
-    })
+    word == name
 }
 
 /// The call that a line writes, if the line has one of the forms.
@@ -123,16 +107,24 @@ pub fn parse(line: &[u8]) -> Option<Call<'_>>
     if line.len() > LONGEST {
         return None;
     }
-    let mut words = WordsLeft { rest: Some(line) };
-    match words.name()? {
-        Name::Enter => enter(&mut words),
-        Name::Open => open(&mut words),
-        Name::Close => close(&mut words),
-        Name::Take => take(&mut words),
-        Name::Put => put(&mut words),
-        Name::Drop => drop_record(&mut words),
-        Name::Show => show(&mut words),
-        Name::Release => release(&mut words),
-        Name::Endorse => endorse(&mut words),
+    let mut words = WordsLeft::new(line);
+    // One comparison after another: a match on the byte strings has forty ways to its last arm, each to be proved.
+    match words.word()? {
+        word if is_name(word, b"enter") => enter(&mut words),
+        word if is_name(word, b"open") => open(&mut words),
+        word if is_name(word, b"close") => close(&mut words),
+        word if is_name(word, b"take") => take(&mut words),
+        word if is_name(word, b"put") => {
+            let (task, record) = task_and_record(&mut words)?;
+            Some(Call::Put { task, record })
+        }
+        word if is_name(word, b"drop") => {
+            let (task, record) = task_and_record(&mut words)?;
+            Some(Call::Drop { task, record })
+        }
+        word if is_name(word, b"show") => show(&mut words),
+        word if is_name(word, b"release") => change(Kind::Release, &mut words),
+        word if is_name(word, b"endorse") => change(Kind::Endorse, &mut words),
+        _ => None,
     }
 }

@@ -4,6 +4,7 @@ use answer::Denial;
 use key::{Bounded, Key, Plain, Request, Robust};
 
 /// The keys that a line can write.
+// Four cases, as a function hands out no `dyn Key`, and each wrap holds the key below by value.
 #[derive(Clone, Copy)]
 pub enum LineKey {
     Plain(Plain),

@@ -1,142 +1,114 @@
 ghost use Rattle.std.specs.Prelude.{◌≡◌};
-ghost use Rattle.std.specs.Str.{bytes_eq};
 ghost use Rattle.words.specs.Decimal.{decimal};
 ghost use Rattle.words.specs.Formulas.{formula_of, written_in};
 ghost use Rattle.words.specs.Hex.{hex_four};
 ghost use Rattle.words.specs.Modes.{mode_of};
-ghost use Rattle.lines.specs.Forms.{name_of};
-ghost use Rattle.lines.specs.Left.{left, Took, Taken, Ended, BoundsTaken, KeyTaken};
+ghost use Rattle.words.specs.Parted.{parted};
+ghost use Rattle.lines.specs.Left.{Took, Taken, Ended, LabelTaken, BoundsTaken, KeyTaken};
 
-use crate::call::{BoundsWords, KeyWords, Name};
+use crate::call::{BoundsWords, KeyWords, LabelWords};
 use key::Mode;
+use std::marker::Model;
 use words::{FormulaWord, cut, formula_word, hex_four, mode_word, number};
 
 /// The words of a line that have not been read yet.
 #[derive(Drop)]
 pub struct WordsLeft<'a> {
-    pub rest: Option<&'a [u8]>,
+    rest: Option<&'a [u8]>,
 }
 
-fn is_name(word: &[u8], name: &[u8]) -> bool
-    ensures { result ≡ bytes_eq word.now name.now }
-{
-    word == name
-}
+impl<'a> Model for WordsLeft<'a> {
+    ghost use Rattle.std.specs.Prelude.{ℕ, List};
+    ghost use Rattle.lines.specs.Rest.{left_of};
 
-/// The call that a word names.
-fn name_of(word: &[u8]) -> Option<Name>
-    ensures { result ≡ name_of word.now }
-{
-    if is_name(word, b"enter") {
-        Some(Name::Enter)
-    } else if is_name(word, b"open") {
-        Some(Name::Open)
-    } else if is_name(word, b"close") {
-        Some(Name::Close)
-    } else if is_name(word, b"take") {
-        Some(Name::Take)
-    } else if is_name(word, b"put") {
-        Some(Name::Put)
-    } else if is_name(word, b"drop") {
-        Some(Name::Drop)
-    } else if is_name(word, b"show") {
-        Some(Name::Show)
-    } else if is_name(word, b"release") {
-        Some(Name::Release)
-    } else if is_name(word, b"endorse") {
-        Some(Name::Endorse)
-    } else {
-        None
-    }
+    ghost Value = { List (List ℕ) };
+
+    ghost view = { λ words. left_of words.rest };
 }
 
 impl<'a> WordsLeft<'a> {
-    /// The next word.
-    fn word(&mut self) -> Option<&'a [u8]>
-        ensures { Took (left self.old) result (left self.new) }
+    /// All words of a line.
+    pub(crate) fn new(line: &'a [u8]) -> WordsLeft<'a>
+        ensures { result ≡ parted 32 line.now }
     {
-        let line = self.rest?;
-        let (word, rest) = cut(line, b' ');
+        WordsLeft { rest: Some(line) }
+    }
+
+    /// The next word.
+    pub(crate) fn word(&mut self) -> Option<&'a [u8]>
+        ensures { Took self.old result self.new }
+    {
+        let (word, rest) = cut(self.rest?, b' ');
         self.rest = rest;
         Some(word)
     }
 
-    pub(crate) fn name(&mut self) -> Option<Name>
-        ensures { Taken name_of (left self.old) result (left self.new) }
-    {
-        name_of(self.word()?)
-    }
-
     pub(crate) fn number(&mut self) -> Option<u64>
-        ensures { Taken decimal (left self.old) result (left self.new) }
+        ensures { Taken decimal self.old result self.new }
     {
         number(self.word()?)
     }
 
     pub(crate) fn group(&mut self) -> Option<u16>
-        ensures { Taken hex_four (left self.old) result (left self.new) }
+        ensures { Taken hex_four self.old result self.new }
     {
         hex_four(self.word()?)
     }
 
     pub(crate) fn formula(&mut self) -> Option<FormulaWord<'a>>
-        ensures { Taken formula_of (left self.old) (written_in result) (left self.new) }
+        ensures { Taken formula_of self.old (written_in result) self.new }
     {
         formula_word(self.word()?)
     }
 
-    pub(crate) fn mode(&mut self) -> Option<Mode>
-        ensures { Taken mode_of (left self.old) result (left self.new) }
+    fn mode(&mut self) -> Option<Mode>
+        ensures { Taken mode_of self.old result self.new }
     {
         mode_word(self.word()?)
     }
 
+    /// The two formulas of a label.
+    pub(crate) fn label(&mut self) -> Option<LabelWords<'a>>
+        ensures { LabelTaken self.old result self.new }
+    {
+        let sight = self.formula()?;
+        let hand = self.formula()?;
+        Some(LabelWords { sight, hand })
+    }
+
     /// The words that a bounded wrap adds.
     fn bounds(&mut self) -> Option<BoundsWords<'a>>
-        ensures { BoundsTaken (left self.old) result (left self.new) }
+        ensures { BoundsTaken self.old result self.new }
     {
         let mode = self.mode()?;
-        let high_sight = self.formula()?;
-        let high_hand = self.formula()?;
-        let low_sight = self.formula()?;
-        let low_hand = self.formula()?;
-        Some(BoundsWords {
-            mode,
-            high_sight,
-            high_hand,
-            low_sight,
-            low_hand,
-        })
+        let high = self.label()?;
+        let low = self.label()?;
+        Some(BoundsWords { mode, high, low })
     }
 
     /// A key: its code, its plain formula, and what the wraps add.
     pub(crate) fn key(&mut self) -> Option<KeyWords<'a>>
-        ensures { KeyTaken (left self.old) result (left self.new) }
+        ensures { KeyTaken self.old result self.new }
     {
         let code = self.number()?;
         let plain = self.formula()?;
-        match code {
-            0 => Some(KeyWords::Plain(plain)),
-            1 => {
-                let robust = self.mode()?;
-                Some(KeyWords::Robust(plain, robust))
-            }
-            2 => {
-                let bounds = self.bounds()?;
-                Some(KeyWords::Bounded(plain, bounds))
-            }
-            3 => {
-                let robust = self.mode()?;
-                let bounds = self.bounds()?;
-                Some(KeyWords::BoundedRobust(plain, robust, bounds))
-            }
-            _ => None,
-        }
+        let (robust, bounds) = match code {
+            0 => (None, None),
+            1 => (Some(self.mode()?), None),
+            2 => (None, Some(self.bounds()?)),
+            3 => (Some(self.mode()?), Some(self.bounds()?)),
+            _ => return None,
+        };
+        Some(KeyWords {
+            plain,
+            robust,
+            bounds,
+        })
     }
 
     /// Nothing, where no word is left.
-    pub(crate) fn end(&mut self) -> Option<()>
-        ensures { Ended (left self.old) result }
+    pub(crate) fn end(&self) -> Option<()>
+        ensures { Ended self.now result }
     {
         match self.rest {
             None => Some(()),

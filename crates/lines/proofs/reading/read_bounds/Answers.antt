@@ -14,7 +14,7 @@ abbrev limit : List ℕ → List ℕ → List ℕ → List ℕ → Limits
 limit a b c d = record { high = record { sight = a; hand = b }; low = record { sight = c; hand = d } }
 
 abbrev low : State → BoundsWords → (Limits → Ruled) → List ℕ → List ℕ → Ruled
-low t w next a b = reducing t (written w.low_sight) (λ c. reducing t (written w.low_hand) (λ d. next (limit a b c d)))
+low t w next a b = reducing t (written w.low.sight) (λ c. reducing t (written w.low.hand) (λ d. next (limit a b c d)))
 
 pub returns-in_err-high : goal.returns-in_err-high
 returns-in_err-high c =

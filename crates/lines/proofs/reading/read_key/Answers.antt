@@ -1,57 +1,57 @@
-use Rattle.std.proofs.Common.{ℕ, List, ap, ◌∙◌}
+use Rattle.std.proofs.Common.{◌≡◌, Err, ◌∙◌}
 use Rattle.std.proofs.lemmas.Result.{err_from_is_err_and}
+use Rattle.answer.specs.declared.Refusal.{Refusal}
 use Rattle.formula.specs.Of.{clauses_of}
-use Rattle.key.specs.declared.mode.Mode.{Mode}
 use Rattle.key.specs.Requests.{Limits}
 use Rattle.key.specs.Meanings.{Meaning, plain, robust, bounded}
 use Rattle.rules.specs.State.{State}
 use Rattle.rules.specs.Step.{Ruled}
+use Rattle.words.specs.Formulas.{written}
 use Rattle.lines.specs.declared.call.BoundsWords.{BoundsWords}
-use Rattle.lines.specs.Left.{key_say}
+use Rattle.lines.specs.Forms.{KeyForm, plains, robusts}
+use Rattle.lines.specs.Left.{bounds_say}
 use Rattle.lines.specs.Obey.{with_key}
-use Rattle.lines.specs.Keys.{bounding}
+use Rattle.lines.specs.Keys.{bounding, BoundsRead, KeyRead}
 use Rattle.lines.proofs.reading.read_key.Goals as goal
 
--- what comes behind the plain formula of a bounded key, and behind its bounds
-abbrev wrapping : BoundsWords → Meaning → (Meaning → Ruled) → Limits → Ruled
-wrapping w below next b = next (bounded w.mode b below)
+-- the key of that form means so
+abbrev Says : KeyForm → Meaning → Type 0
+Says k m = (t : State) (next : Meaning → Ruled) → with_key t k next ≡ next m
 
-abbrev behind : State → BoundsWords → (List ℕ → Meaning) → (Meaning → Ruled) → List ℕ → Ruled
-behind t w key next p = bounding t w (wrapping w (key p) next)
+-- a bounded wrap over such a key, where its bounds were read, and where they were refused
+wrapped : (k : KeyForm) (m : Meaning) (w : BoundsWords) (b : Limits) → Says k m → ((t : State) (next : Limits → Ruled) → bounding t w next ≡ next b) → Says (bounds_say w k) (bounded w.mode b m)
+wrapped k m w b h r t next = h t (λ below. bounding t w (λ l. next (bounded w.mode l below))) ∙ r t (λ l. next (bounded w.mode l m))
 
-abbrev over : Mode → List ℕ → Meaning
-over m p = robust m (plain p)
+unwrapped : (k : KeyForm) (m : Meaning) (w : BoundsWords) (q : Refusal) → Says k m → BoundsRead w (Err q) → KeyRead (bounds_say w k) (Err q)
+unwrapped k m w q h r t next = h t (λ below. bounding t w (λ l. next (bounded w.mode l below))) ∙ r t (λ l. next (bounded w.mode l m))
 
-pub returns-in_err-bounds-in-Bounded : goal.returns-in_err-bounds-in-Bounded
-returns-in_err-bounds-in-Bounded c =
-    let e = err_from_is_err_and c.from_residual-in_err-bounds-in-Bounded.result c.from_residual-in_err-bounds-in-Bounded.ensures.1 in
-    let w = c.in-Bounded.words in
-    let p = clauses_of c.in_ok-below-in-Bounded.below.formula in
-    rw (e.1, e.2)
-    (λ t next. ap (λ k. with_key t (key_say k) next) c.in-Bounded.is
-    ∙ (c.in_ok-below-in-Bounded.ensures t (behind t w plain next) ∙ c.in_err-bounds-in-Bounded.ensures t (wrapping w (plain p) next)))
+pub returns-in_err-read_bounded-in-None-Some : goal.returns-in_err-read_bounded-in-None-Some
+returns-in_err-read_bounded-in-None-Some c =
+    let p = err_from_is_err_and c.from_residual-in_err-read_bounded-in-None-Some.result c.from_residual-in_err-read_bounded-in-None-Some.ensures.1 in
+    let a = c.in-None-Some in
+    let f = clauses_of c.in_ok-below.below.formula in
+    rw (p.1, p.2, a.is-0, a.is-1)
+    (unwrapped (plains (written c.args.words.plain)) (plain f) a.words _ (λ t next. c.in_ok-below.ensures t (λ x. next (plain x))) c.in_err-read_bounded-in-None-Some.ensures)
 
-pub returns-in_err-bounds-in-BoundedRobust : goal.returns-in_err-bounds-in-BoundedRobust
-returns-in_err-bounds-in-BoundedRobust c =
-    let e = err_from_is_err_and c.from_residual-in_err-bounds-in-BoundedRobust.result c.from_residual-in_err-bounds-in-BoundedRobust.ensures.1 in
-    let w = c.in-BoundedRobust.words in
-    let m = c.in-BoundedRobust.mode in
-    let p = clauses_of c.in_ok-below-in-BoundedRobust.below.formula in
-    rw (e.1, e.2)
-    (λ t next. ap (λ k. with_key t (key_say k) next) c.in-BoundedRobust.is
-    ∙ (c.in_ok-below-in-BoundedRobust.ensures t (behind t w (over m) next) ∙ c.in_err-bounds-in-BoundedRobust.ensures t (wrapping w (over m p) next)))
+pub returns-in_err-read_bounded-in-Some-Some : goal.returns-in_err-read_bounded-in-Some-Some
+returns-in_err-read_bounded-in-Some-Some c =
+    let p = err_from_is_err_and c.from_residual-in_err-read_bounded-in-Some-Some.result c.from_residual-in_err-read_bounded-in-Some-Some.ensures.1 in
+    let a = c.in-Some-Some in
+    let f = clauses_of c.in_ok-below.below.formula in
+    rw (p.1, p.2, a.is-0, a.is-1)
+    (unwrapped (robusts a.mode (plains (written c.args.words.plain))) (robust a.mode (plain f)) a.words _ (λ t next. c.in_ok-below.ensures t (λ x. next (robust a.mode (plain x)))) c.in_err-read_bounded-in-Some-Some.ensures)
 
-pub returns-in_ok-bounds-in-Bounded : goal.returns-in_ok-bounds-in-Bounded
-returns-in_ok-bounds-in-Bounded c =
-    let w = c.in-Bounded.words in
-    let p = clauses_of c.in_ok-below-in-Bounded.below.formula in
-    λ t next. ap (λ k. with_key t (key_say k) next) c.in-Bounded.is
-    ∙ (c.in_ok-below-in-Bounded.ensures t (behind t w plain next) ∙ c.in_ok-bounds-in-Bounded.ensures t (wrapping w (plain p) next))
+pub returns-in_ok-read_bounded-in-None-Some : goal.returns-in_ok-read_bounded-in-None-Some
+returns-in_ok-read_bounded-in-None-Some c =
+    let a = c.in-None-Some in
+    let e = c.in_ok-read_bounded-in-None-Some.ensures in
+    let f = clauses_of c.in_ok-below.below.formula in
+    rw (a.is-0, a.is-1, e.0, e.1) (wrapped (plains (written c.args.words.plain)) (plain f) a.words _ (λ t next. c.in_ok-below.ensures t (λ x. next (plain x))) e.2)
 
-pub returns-in_ok-bounds-in-BoundedRobust : goal.returns-in_ok-bounds-in-BoundedRobust
-returns-in_ok-bounds-in-BoundedRobust c =
-    let w = c.in-BoundedRobust.words in
-    let m = c.in-BoundedRobust.mode in
-    let p = clauses_of c.in_ok-below-in-BoundedRobust.below.formula in
-    λ t next. ap (λ k. with_key t (key_say k) next) c.in-BoundedRobust.is
-    ∙ (c.in_ok-below-in-BoundedRobust.ensures t (behind t w (over m) next) ∙ c.in_ok-bounds-in-BoundedRobust.ensures t (wrapping w (over m p) next))
+pub returns-in_ok-read_bounded-in-Some-Some : goal.returns-in_ok-read_bounded-in-Some-Some
+returns-in_ok-read_bounded-in-Some-Some c =
+    let a = c.in-Some-Some in
+    let e = c.in_ok-read_bounded-in-Some-Some.ensures in
+    let f = clauses_of c.in_ok-below.below.formula in
+    rw (a.is-0, a.is-1, e.0, e.1)
+    (wrapped (robusts a.mode (plains (written c.args.words.plain))) (robust a.mode (plain f)) a.words _ (λ t next. c.in_ok-below.ensures t (λ x. next (robust a.mode (plain x)))) e.2)
