@@ -3,6 +3,8 @@ use Rattle.std.proofs.Common.{◌≡◌, ℕ, true, false, cond, eqb, List, [], 
 use Rattle.std.specs.Fmt.{digits}
 use Rattle.answer.specs.Told.{Told, granted, refused}
 use Rattle.clause.specs.Groups.{least}
+use Rattle.key.specs.declared.mode.Mode.{Mode}
+use Rattle.key.specs.declared.mode.Mode.TheVariants.{Releases, Endorsements, Both}
 use Rattle.key.specs.Meanings.{plain, robust, bounded}
 use Rattle.key.specs.Requests.{Limits, limits}
 use Rattle.rules.specs.State.{blank}
@@ -78,6 +80,18 @@ lines =
       endorse_said = refl;
       said = refl;
       said_none = refl;
+      pair_puts = refl;
+      pair_none = refl;
+      robust_none = refl;
+      bounded_none = refl;
+      changes_release = refl;
+      changes_endorse = refl;
+      change_release = refl;
+      change_endorse = refl;
+      label_taken = λ next. refl;
+      label_not_taken = λ next. refl;
+      label_taken_late = λ t. no_form (t (λ a b ws. Some (closes 2)));
+      label_missed = λ t. some_form (t (λ a b ws. Some (closes 2)));
       bounds_taken = λ k next. refl;
       bounds_not_taken = λ k next. refl;
       bounds_taken_late = λ t. no_form (t (plains one) (λ k ws. Some (closes 2)));
@@ -91,6 +105,11 @@ lines =
 -- what is read, told as an answer
 abbrev tell : List ℕ → Ruled
 tell cs = record { state = blank; answer = granted cs }
+
+abbrev mode_number : Mode → ℕ
+mode_number Releases = 0
+mode_number Endorsements = 2
+mode_number Both = 1
 
 abbrev first_of : Told → ℕ
 first_of (granted vs) = get_or vs 0 0
@@ -120,6 +139,9 @@ read =
       bounds_read = λ b e t next. ap next (sym e);
       bounds_misread = λ b e w. differ {m = 1} {n = 3} refl (ap first_in (w blank read_limits) ∙ ap (λ (x : Limits). first_in (read_limits x)) e);
       bounds_refused_not = λ w. no_refusal refl refl (w blank read_limits);
+      bounded_read = λ k m e. (refl, m, λ t next. ap next (sym e));
+      bounded_misread = λ k m w. differ {m = 0} {n = 1} refl (ap mode_number (sym m ∙ w.1));
+      bounded_refused_not = λ k w. no_refusal refl refl (w blank read_limits);
       key_read = λ k e t next. ap (λ (cs : List ℕ). next (plain cs)) (sym e);
       key_refused = λ t next. refl;
       key_refused_not = λ w. no_refusal refl refl (w blank (λ m. tell []));

@@ -1,5 +1,5 @@
 -- The rows of words hold.
-use Rattle.std.proofs.Common.{ℕ, zero, suc, ◌<◌, List, length, get_or, take, codes, sym, refl, ap, ◌∙◌, ap₂, arith, lit<}
+use Rattle.std.proofs.Common.{ℕ, zero, suc, ◌<◌, List, length, get_or, codes, refl, ap, arith, lit<}
 use Rattle.words.specs.Parted.{Without}
 use Rattle.histories.specs.Words.{Words}
 use Rattle.histories.proofs.Apart.{differ}
@@ -45,12 +45,8 @@ words =
       is_some_row = refl;
       is_none = refl;
       writes_truth = refl;
+      stands = refl;
       writes_clauses = refl;
       writes_in = refl;
       writes_in_none = refl;
-      gathers = λ g c n o. (ap length c, ap₂ (λ (k : ℕ) (cs : List ℕ). take k cs) n c, o);
-      gathers_all = λ g c n o. (ap length c, ap₂ (λ (k : ℕ) (cs : List ℕ). take k cs) n c, o);
-      gathers_more = λ g c n o. (ap length c, ap₂ (λ (k : ℕ) (cs : List ℕ). take k cs) n c, o);
-      gathers_other = λ g c n w. differ {m = 3} {n = 4} refl (ap (λ (cs : List ℕ). get_or cs 0 0) (sym (ap₂ (λ (k : ℕ) (cs : List ℕ). take k cs) n c) ∙ w.1));
-      gathers_short = λ g c w. differ {m = 63} {n = 64} refl (sym (ap length c) ∙ w.0);
     }

@@ -1,10 +1,12 @@
 -- Lines: what they write, and a history of them with what is printed.
-use Rattle.std.specs.Prelude.{◌≡◌, ℕ, zero, suc, List, [], ◌∷◌, ◌++◌, map, length, replicate, Some, None, Ok, Err, codes, Option}
+use Rattle.std.specs.Prelude.{◌≡◌, refl, ℕ, zero, suc, List, [], ◌∷◌, ◌++◌, map, length, replicate, IsSome, Some, None, Ok, Err, codes, Option}
 use Rattle.answer.specs.declared.Refusal.TheVariants.{LongList, LargeFormula}
 use Rattle.answer.specs.Told.{granted}
 use Rattle.answer.specs.Text.{text}
 use Rattle.formula.specs.Of.{clauses_of}
 use Rattle.label.specs.declared.label.Label.{Label}
+use Rattle.label.specs.declared.kind.Kind.TheVariants.{Release, Endorse}
+use Rattle.key.specs.declared.mode.Mode.{Mode}
 use Rattle.key.specs.declared.mode.Mode.TheVariants.{Releases, Endorsements, Both}
 use Rattle.key.specs.declared.plain.Plain.{Plain as PlainKey}
 use Rattle.key.specs.declared.bounded.Bounds.{Bounds}
@@ -16,17 +18,21 @@ use Rattle.rules.specs.State.{State, blank}
 use Rattle.rules.specs.Step.{Ruled, refuse, done}
 use Rattle.words.specs.declared.clauses.FormulaWord.{FormulaWord}
 use Rattle.words.specs.declared.clauses.FormulaWord.TheVariants.{True, Clauses}
-use Rattle.lines.specs.declared.call.Call.TheVariants.{Enter, Open, Close, Take, Put, Drop, Show, Release, Endorse}
+use Rattle.lines.specs.declared.call.Call.TheVariants.{Enter, Open, Close, Take, Put, Drop, Show, Change}
 use Rattle.lines.specs.declared.call.BoundsWords.{BoundsWords}
-use Rattle.lines.specs.declared.call.KeyWords.TheVariants.{Plain, Robust, Bounded, BoundedRobust}
+use Rattle.lines.specs.declared.call.LabelWords.{LabelWords}
+use Rattle.lines.specs.declared.call.KeyWords.{KeyWords}
 use Rattle.lines.specs.declared.line_key.LineKey.TheVariants.{Plain as PlainLine, Robust as RobustLine, Bounded as BoundedLine, BoundedRobust as BoundedRobustLine}
 use Rattle.lines.specs.Forms.{Form, enters, opens, closes, takes, puts, drops, shows, releases, endorses, plains, robusts, boundeds, form_of}
-use Rattle.lines.specs.Left.{left, Took, Taken, Ended, key_say, BoundsTaken, KeyTaken, say, say_in}
+use Rattle.lines.specs.Rest.{left_of}
+use Rattle.lines.specs.Left.{Took, Taken, Ended, pair_said, LabelTaken, robust_say, bounded_say, key_say, BoundsTaken, KeyTaken, changes, change_form, say, say_in}
 use Rattle.lines.specs.Obey.{line_ruled, values}
-use Rattle.lines.specs.Keys.{line_meaning, refusing, PlainRead, LabelRead, bounding, BoundsRead, KeyRead}
+use Rattle.lines.specs.Keys.{line_meaning, refusing, PlainRead, LabelRead, bounding, BoundsRead, BoundedRead, KeyRead}
 use Rattle.words.specs.Hex.{hex_four}
+use Rattle.words.specs.Parted.{parted}
+use Rattle.words.specs.Clauses.{hex_all}
 use Rattle.histories.specs.Short.{one, two, three, one_two, label}
-use Rattle.histories.specs.Words.{part}
+use Rattle.histories.specs.Words.{part, clauses_word}
 
 -- what is printed of lines, each obeyed where the one before it left off
 abbrev pub followed : Ruled → List (List ℕ) → List (List ℕ)
@@ -116,14 +122,21 @@ forms =
 abbrev pub longest : List ℕ
 longest = codes "enter 0005 0 1 " ++ (repeated 815 ++ codes " T")
 
-abbrev pub word : List ℕ → FormulaWord
-word bytes = Clauses (part bytes)
+abbrev pub word : (bytes : List ℕ) → IsSome (hex_all (parted 46 bytes)) → FormulaWord
+word bytes lawful = Clauses (clauses_word bytes lawful)
+
+abbrev pub label_words : LabelWords
+label_words = record { sight = word (codes "0001") refl; hand = word (codes "0002") refl }
 
 abbrev pub bounds_words : BoundsWords
-bounds_words = record { mode = Both; high_sight = word (codes "0001"); high_hand = word (codes "0002"); low_sight = True; low_hand = word (codes "0003") }
+bounds_words = record { mode = Both; high = label_words; low = record { sight = True; hand = word (codes "0003") refl } }
 
 abbrev pub plain_words : FormulaWord
-plain_words = word (codes "0002")
+plain_words = word (codes "0002") refl
+
+-- a key that has these wraps
+abbrev pub key_words : Option Mode → Option BoundsWords → KeyWords
+key_words robust bounds = record { plain = plain_words; robust = robust; bounds = bounds }
 
 -- what is made of a form: the limits that were read
 abbrev pub read_limits : Limits → Ruled
@@ -140,8 +153,8 @@ pub record Lines : Type 0 where
   pub no_values : values None ≡ []
   pub one_value : values (Some 7) ≡ 7 ∷ []
   -- the words that are left, and one taken
-  pub left_words : left (record { rest = Some (part (codes "2 1")) }) ≡ codes "2" ∷ codes "1" ∷ []
-  pub left_none : left (record { rest = None }) ≡ []
+  pub left_words : left_of (Some (part (codes "2 1"))) ≡ codes "2" ∷ codes "1" ∷ []
+  pub left_none : left_of None ≡ []
   pub took : Took (codes "2" ∷ codes "1" ∷ []) (Some (part (codes "2"))) (codes "1" ∷ [])
   pub took_other : Took (codes "2" ∷ codes "1" ∷ []) (Some (part (codes "1"))) (codes "1" ∷ []) → ⊥
   pub took_all : Took (codes "2" ∷ codes "1" ∷ []) (Some (part (codes "2"))) [] → ⊥
@@ -158,28 +171,40 @@ pub record Lines : Type 0 where
   pub ended_early : Ended (codes "1" ∷ []) (Some tt) → ⊥
   pub ended_late : Ended [] None → ⊥
   -- the forms that the code holds
-  pub plain_said : key_say (Plain plain_words) ≡ plains two
-  pub robust_said : key_say (Robust plain_words Both) ≡ robusts Both (plains two)
-  pub bounded_said : key_say (Bounded plain_words bounds_words) ≡ boundeds Both one two [] three (plains two)
-  pub bounded_robust_said : key_say (BoundedRobust plain_words Releases bounds_words) ≡ boundeds Both one two [] three (robusts Releases (plains two))
-  pub enter_said : say (Enter 5 1 500 True plain_words) ≡ enters 5 1 500 [] two
+  pub plain_said : key_say (key_words None None) ≡ plains two
+  pub robust_said : key_say (key_words (Some Both) None) ≡ robusts Both (plains two)
+  pub bounded_said : key_say (key_words None (Some bounds_words)) ≡ boundeds Both one two [] three (plains two)
+  pub bounded_robust_said : key_say (key_words (Some Releases) (Some bounds_words)) ≡ boundeds Both one two [] three (robusts Releases (plains two))
+  pub enter_said : say (Enter 5 1 500 (record { sight = True; hand = plain_words })) ≡ enters 5 1 500 [] two
   pub open_said : say (Open 2 1) ≡ opens 2 1
   pub close_said : say (Close 2) ≡ closes 2
   pub take_said : say (Take 2 5 1) ≡ takes 2 5 1
   pub put_said : say (Put 2 5) ≡ puts 2 5
   pub drop_said : say (Drop 2 5) ≡ drops 2 5
   pub show_said : say (Show 5 255) ≡ shows 5 255
-  pub release_said : say (Release 2 5 True (Plain plain_words)) ≡ releases 2 5 [] (plains two)
-  pub endorse_said : say (Endorse 2 5 True (Plain plain_words)) ≡ endorses 2 5 [] (plains two)
+  pub release_said : say (Change Release 2 5 True (key_words None None)) ≡ releases 2 5 [] (plains two)
+  pub endorse_said : say (Change Endorse 2 5 True (key_words None None)) ≡ endorses 2 5 [] (plains two)
   pub said : say_in (Some (Close 2)) ≡ Some (closes 2)
   pub said_none : say_in None ≡ None
+  pub pair_puts : pair_said puts (Some (2, 5)) ≡ Some (puts 2 5)
+  pub pair_none : pair_said drops None ≡ None
+  pub robust_none : robust_say None (plains two) ≡ plains two
+  pub bounded_none : bounded_say None (plains two) ≡ plains two
+  pub changes_release : changes Release 2 5 three (plains two) ≡ releases 2 5 three (plains two)
+  pub changes_endorse : changes Endorse 2 5 three (plains two) ≡ endorses 2 5 three (plains two)
+  pub change_release : change_form Release (codes "2" ∷ codes "5" ∷ codes "0003" ∷ codes "0" ∷ codes "0001" ∷ []) ≡ Some (releases 2 5 three (plains one))
+  pub change_endorse : change_form Endorse (codes "2" ∷ codes "5" ∷ codes "0003" ∷ codes "0" ∷ codes "0001" ∷ []) ≡ Some (endorses 2 5 three (plains one))
+  pub label_taken : LabelTaken (codes "0001" ∷ codes "0002" ∷ codes "x" ∷ []) (Some label_words) (codes "x" ∷ [])
+  pub label_not_taken : LabelTaken (codes "0001" ∷ codes "x" ∷ []) None []
+  pub label_taken_late : LabelTaken (codes "0001" ∷ []) (Some label_words) [] → ⊥
+  pub label_missed : LabelTaken (codes "0001" ∷ codes "0002" ∷ []) None [] → ⊥
   pub bounds_taken : BoundsTaken (codes "de" ∷ codes "0001" ∷ codes "0002" ∷ codes "T" ∷ codes "0003" ∷ codes "x" ∷ []) (Some bounds_words) (codes "x" ∷ [])
   pub bounds_not_taken : BoundsTaken (codes "de" ∷ codes "0001" ∷ []) None []
   pub bounds_taken_late : BoundsTaken (codes "de" ∷ codes "0001" ∷ []) (Some bounds_words) [] → ⊥
   pub bounds_missed : BoundsTaken (codes "de" ∷ codes "0001" ∷ codes "0002" ∷ codes "T" ∷ codes "0003" ∷ []) None [] → ⊥
-  pub key_taken : KeyTaken (codes "1" ∷ codes "0002" ∷ codes "de" ∷ codes "x" ∷ []) (Some (Robust plain_words Both)) (codes "x" ∷ [])
+  pub key_taken : KeyTaken (codes "1" ∷ codes "0002" ∷ codes "de" ∷ codes "x" ∷ []) (Some (key_words (Some Both) None)) (codes "x" ∷ [])
   pub key_not_taken : KeyTaken (codes "7" ∷ codes "0002" ∷ []) None []
-  pub key_taken_late : KeyTaken (codes "7" ∷ codes "0002" ∷ []) (Some (Plain plain_words)) [] → ⊥
+  pub key_taken_late : KeyTaken (codes "7" ∷ codes "0002" ∷ []) (Some (key_words None None)) [] → ⊥
   pub key_missed : KeyTaken (codes "0" ∷ codes "0002" ∷ []) None [] → ⊥
 
 pub record Read : Type 0 where
@@ -198,6 +223,9 @@ pub record Read : Type 0 where
   pub bounds_read : (b : Bounds) → limits b ≡ record { high = label one two; low = label [] three } → BoundsRead bounds_words (Ok b)
   pub bounds_misread : (b : Bounds) → limits b ≡ record { high = label [] three; low = label one two } → BoundsRead bounds_words (Ok b) → ⊥
   pub bounds_refused_not : BoundsRead bounds_words (Err LongList) → ⊥
+  pub bounded_read : (k : BoundedKey PlainKey) → k.mode ≡ Both → limits k.bounds ≡ record { high = label one two; low = label [] three } → BoundedRead k.below bounds_words (Ok k)
+  pub bounded_misread : (k : BoundedKey PlainKey) → k.mode ≡ Releases → BoundedRead k.below bounds_words (Ok k) → ⊥
+  pub bounded_refused_not : (k : PlainKey) → BoundedRead k bounds_words (Err LongList) → ⊥
   pub key_read : (k : PlainKey) → clauses_of k.formula ≡ one → KeyRead (plains one) (Ok (PlainLine k))
   pub key_refused : KeyRead (plains (replicate 65 1)) (Err LongList)
   pub key_refused_not : KeyRead (plains one) (Err LongList) → ⊥

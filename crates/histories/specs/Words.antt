@@ -1,21 +1,25 @@
 -- The words of a line, by their bytes.
-use Rattle.std.specs.Prelude.{◌≡◌, ℕ, true, false, List, [], ◌∷◌, map, replicate, Some, None, codes, Option}
+use Rattle.std.specs.Prelude.{◌≡◌, refl, ℕ, true, false, List, [], ◌∷◌, map, IsSome, is_some, Some, None, codes, Option}
 use Rattle.std.specs.Borrow.{Bor}
 use Rattle.key.specs.declared.mode.Mode.{Mode}
 use Rattle.key.specs.declared.mode.Mode.TheVariants.{Releases, Endorsements, Both}
+use Rattle.words.specs.declared.clauses.ClausesWord.{ClausesWord}
 use Rattle.words.specs.declared.clauses.FormulaWord.TheVariants.{True, Clauses}
-use Rattle.words.specs.declared.clauses.gathered.Gathered.{Gathered}
 use Rattle.words.specs.Hex.{hex_digit, hex_four}
 use Rattle.words.specs.Decimal.{digit_of, decimal}
 use Rattle.words.specs.Parted.{before, parted, joined, Without, Cut, AllWithout, PartsJoin}
-use Rattle.words.specs.Formulas.{hex_all, formula_of, or_none, is_some, written, written_in}
+use Rattle.words.specs.Clauses.{hex_all, or_none}
+use Rattle.words.specs.Formulas.{formula_of, clauses_in, written, written_in}
 use Rattle.words.specs.Modes.{mode_of}
-use Rattle.words.specs.Gathers.{Gathers}
 use Rattle.histories.specs.Short.{one}
 
 -- bytes that a word is part of
 abbrev pub part : List ℕ → Bor (List ℕ)
 part bytes = record { ref_ptr = (0, 0); now = bytes }
+
+-- a word of clauses
+abbrev pub clauses_word : (bytes : List ℕ) → IsSome (hex_all (parted 46 bytes)) → ClausesWord
+clauses_word bytes lawful = record { part = part bytes; lawful = lawful }
 
 -- digits, and the bytes right before and behind them
 abbrev pub hex_digits : List (ℕ × Option ℕ)
@@ -107,15 +111,10 @@ pub record Words : Type 0 where
   pub none_hex : hex_all [] ≡ Some []
   pub or_none_row : or_none (Some one) ≡ one
   pub or_none_none : or_none None ≡ []
-  pub is_some_row : is_some (Some []) ≡ true
-  pub is_none : is_some None ≡ false
+  pub is_some_row : is_some (hex_all (codes "0001" ∷ [])) ≡ true
+  pub is_none : is_some (hex_all (codes "001" ∷ [])) ≡ false
   pub writes_truth : written True ≡ []
-  pub writes_clauses : written (Clauses (part (codes "0001.0006"))) ≡ 1 ∷ 6 ∷ []
-  pub writes_in : written_in (Some (Clauses (part (codes "0001")))) ≡ Some one
+  pub stands : clauses_in (clauses_word (codes "0001.0006") refl) ≡ 1 ∷ 6 ∷ []
+  pub writes_clauses : written (Clauses (clauses_word (codes "0001.0006") refl)) ≡ 1 ∷ 6 ∷ []
+  pub writes_in : written_in (Some (Clauses (clauses_word (codes "0001") refl))) ≡ Some one
   pub writes_in_none : written_in None ≡ None
-  -- the first 64 clauses, and whether there are more
-  pub gathers : (g : Gathered) → g.clauses ≡ replicate 64 3 → g.count ≡ 2 → g.over ≡ false → Gathers g (3 ∷ 3 ∷ [])
-  pub gathers_all : (g : Gathered) → g.clauses ≡ replicate 64 3 → g.count ≡ 64 → g.over ≡ false → Gathers g (replicate 64 3)
-  pub gathers_more : (g : Gathered) → g.clauses ≡ replicate 64 3 → g.count ≡ 64 → g.over ≡ true → Gathers g (replicate 65 3)
-  pub gathers_other : (g : Gathered) → g.clauses ≡ replicate 64 3 → g.count ≡ 1 → Gathers g (4 ∷ []) → ⊥
-  pub gathers_short : (g : Gathered) → g.clauses ≡ replicate 63 3 → Gathers g [] → ⊥
