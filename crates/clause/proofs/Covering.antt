@@ -8,7 +8,7 @@ use Rattle.clause.proofs.Bitsets.{apart, split, wider, missed_or, or_holds}
 -- a larger group meets what a smaller one meets
 pub grows : (cs : List ℕ) (g g' : ℕ) → g < 65536 → bit_and g g' ≡ g → Meets cs g → Meets cs g'
 grows cs g g' l s =
-    All-weaker (λ c. Shares c g) (λ c. Shares c g') (λ c m e. m (and_comm c g ∙ wider 16 g g' c l s (and_comm g' c ∙ e))) cs
+    All-weaker (λ c. Shares c g) (λ c. Shares c g') (λ c m e. m (and_comm c g ∙ wider g g' c s (and_comm g' c ∙ e))) cs
 
 -- a group that misses a clause lies in its complement
 pub beside : (d g : ℕ) → d < 65536 → g < 65536 → bit_and d g ≡ 0 → bit_and g (65535 - d) ≡ g
@@ -43,18 +43,18 @@ implies_either first a b h g gl m =
         | inr y ↦
             let w = h x.0 x.1 y.0 y.1 in
             let d : ℕ = bit_or (get_or a x.0 0) (get_or b y.0 0) in
-            let e : bit_and d g ≡ 0 = missed_or 16 (get_or a x.0 0) (get_or b y.0 0) g gl x.2 y.2 in
+            let e : bit_and d g ≡ 0 = missed_or (get_or a x.0 0) (get_or b y.0 0) g x.2 y.2 in
             absurd (w.1 (grows first g (65535 - d) gl (beside d g w.0 gl e) m))
       ]
     ]
 
-pub not_either : (first a b : List ℕ) (j k : ℕ) → j < length a → k < length b → get_or a j 0 < 65536 → get_or b k 0 < 65536 → bit_or (get_or a j 0) (get_or b k 0) < 65536 → Meets first (65535 - bit_or (get_or a j 0) (get_or b k 0)) → ImpliesEither first a b → ⊥
-not_either first a b j k jl kl xl yl dl m imp =
+pub not_either : (first a b : List ℕ) (j k : ℕ) → j < length a → k < length b → bit_or (get_or a j 0) (get_or b k 0) < 65536 → Meets first (65535 - bit_or (get_or a j 0) (get_or b k 0)) → ImpliesEither first a b → ⊥
+not_either first a b j k jl kl dl m imp =
     let x : ℕ = get_or a j 0 in
     let y : ℕ = get_or b k 0 in
     let d : ℕ = bit_or x y in
     let e : bit_and d (65535 - d) ≡ 0 = apart 16 d (65535 - d) (omega arith) in
     elim (imp (65535 - d) (omega arith) m) [
-      | inl ma ↦ All-get_or (λ c. Shares c (65535 - d)) a j 0 jl ma (wider 16 x d (65535 - d) xl (or_holds 16 x y xl) e)
-      | inr mb ↦ All-get_or (λ c. Shares c (65535 - d)) b k 0 kl mb (wider 16 y d (65535 - d) yl (ap (bit_and y) (or_comm x y) ∙ or_holds 16 y x yl) e)
+      | inl ma ↦ All-get_or (λ c. Shares c (65535 - d)) a j 0 jl ma (wider x d (65535 - d) (or_holds x y) e)
+      | inr mb ↦ All-get_or (λ c. Shares c (65535 - d)) b k 0 kl mb (wider y d (65535 - d) (ap (bit_and y) (or_comm x y) ∙ or_holds y x) e)
     ]

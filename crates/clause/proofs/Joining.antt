@@ -1,10 +1,10 @@
-use Rattle.std.proofs.Common.{◌≡◌, ℕ, ◌<◌, ◌⊎◌, List, [], ◌∷◌, ◌++◌, map, sym, ap, ◌∙◌, inl, inr, append_assoc, append-nil}
+use Rattle.std.proofs.Common.{◌≡◌, ℕ, ◌⊎◌, List, [], ◌∷◌, ◌++◌, map, sym, ap, ◌∙◌, inl, inr, append_assoc, append-nil}
 use lib.Bits.{bit_and, bit_or, or_comm}
 use Rattle.std.proofs.ByRecursion.{All-append}
 use Rattle.std.proofs.lemmas.Bool.{cases_eq}
 use Rattle.clause.specs.Meaning.{Shares, Meets, Means}
 use Rattle.clause.specs.Unions.{unions}
-use Rattle.clause.proofs.Bitsets.{missed_or, missed_left}
+use Rattle.clause.proofs.Bitsets.{wider, missed_or, or_holds}
 
 pub meets_append : (xs ys : List ℕ) (g : ℕ) → Meets (xs ++ ys) g → Meets xs g × Meets ys g
 meets_append [] ys g m = (tt, m)
@@ -14,46 +14,46 @@ pub means_append : (xs ys : List ℕ) → Means (xs ++ ys) (λ g. Meets xs g × 
 means_append xs ys g h = (meets_append xs ys g, λ m. All-append (λ c. Shares c g) xs ys m.0 m.1)
 
 -- a group meets a union when it meets one of the parts
-shares_left : (x y g : ℕ) → g < 65536 → Shares x g → Shares (bit_or x y) g
-shares_left x y g h s e = s (missed_left 16 x y g h e)
+shares_left : (x y g : ℕ) → Shares x g → Shares (bit_or x y) g
+shares_left x y g s e = s (wider x (bit_or x y) g (or_holds x y) e)
 
-shares_right : (x y g : ℕ) → g < 65536 → Shares y g → Shares (bit_or x y) g
-shares_right x y g h s e = s (missed_left 16 y x g h (ap (λ z. bit_and z g) (or_comm y x) ∙ e))
+shares_right : (x y g : ℕ) → Shares y g → Shares (bit_or x y) g
+shares_right x y g s e = shares_left y x g s (ap (λ z. bit_and z g) (or_comm y x) ∙ e)
 
-row_left : (x : ℕ) (ys : List ℕ) (g : ℕ) → g < 65536 → Shares x g → Meets (map (bit_or x) ys) g
-row_left x [] g h s = tt
-row_left x (y ∷ ys) g h s = (shares_left x y g h s, row_left x ys g h s)
+row_left : (x : ℕ) (ys : List ℕ) (g : ℕ) → Shares x g → Meets (map (bit_or x) ys) g
+row_left x [] g s = tt
+row_left x (y ∷ ys) g s = (shares_left x y g s, row_left x ys g s)
 
-row_right : (x : ℕ) (ys : List ℕ) (g : ℕ) → g < 65536 → Meets ys g → Meets (map (bit_or x) ys) g
-row_right x [] g h m = tt
-row_right x (y ∷ ys) g h m = (shares_right x y g h m.0, row_right x ys g h m.1)
+row_right : (x : ℕ) (ys : List ℕ) (g : ℕ) → Meets ys g → Meets (map (bit_or x) ys) g
+row_right x [] g m = tt
+row_right x (y ∷ ys) g m = (shares_right x y g m.0, row_right x ys g m.1)
 
-row_from : (x : ℕ) (ys : List ℕ) (g : ℕ) → g < 65536 → bit_and x g ≡ 0 → Meets (map (bit_or x) ys) g → Meets ys g
-row_from x [] g h e m = tt
-row_from x (y ∷ ys) g h e m = (λ z. m.0 (missed_or 16 x y g h e z), row_from x ys g h e m.1)
+row_from : (x : ℕ) (ys : List ℕ) (g : ℕ) → bit_and x g ≡ 0 → Meets (map (bit_or x) ys) g → Meets ys g
+row_from x [] g e m = tt
+row_from x (y ∷ ys) g e m = (λ z. m.0 (missed_or x y g e z), row_from x ys g e m.1)
 
-unions_left : (xs ys : List ℕ) (g : ℕ) → g < 65536 → Meets xs g → Meets (unions xs ys) g
-unions_left [] ys g h m = tt
-unions_left (x ∷ xs) ys g h m =
-    All-append (λ c. Shares c g) (map (bit_or x) ys) (unions xs ys) (row_left x ys g h m.0) (unions_left xs ys g h m.1)
+unions_left : (xs ys : List ℕ) (g : ℕ) → Meets xs g → Meets (unions xs ys) g
+unions_left [] ys g m = tt
+unions_left (x ∷ xs) ys g m =
+    All-append (λ c. Shares c g) (map (bit_or x) ys) (unions xs ys) (row_left x ys g m.0) (unions_left xs ys g m.1)
 
-unions_right : (xs ys : List ℕ) (g : ℕ) → g < 65536 → Meets ys g → Meets (unions xs ys) g
-unions_right [] ys g h m = tt
-unions_right (x ∷ xs) ys g h m =
-    All-append (λ c. Shares c g) (map (bit_or x) ys) (unions xs ys) (row_right x ys g h m) (unions_right xs ys g h m)
+unions_right : (xs ys : List ℕ) (g : ℕ) → Meets ys g → Meets (unions xs ys) g
+unions_right [] ys g m = tt
+unions_right (x ∷ xs) ys g m =
+    All-append (λ c. Shares c g) (map (bit_or x) ys) (unions xs ys) (row_right x ys g m) (unions_right xs ys g m)
 
-unions_from : (xs ys : List ℕ) (g : ℕ) → g < 65536 → Meets (unions xs ys) g → Meets xs g ⊎ Meets ys g
-unions_from [] ys g h m = inl tt
-unions_from (x ∷ xs) ys g h m =
+unions_from : (xs ys : List ℕ) (g : ℕ) → Meets (unions xs ys) g → Meets xs g ⊎ Meets ys g
+unions_from [] ys g m = inl tt
+unions_from (x ∷ xs) ys g m =
     let r = meets_append (map (bit_or x) ys) (unions xs ys) g m in
     elim (cases_eq (bit_and x g) 0) [
-      | inl e ↦ inr (row_from x ys g h e r.0)
-      | inr n ↦ elim (unions_from xs ys g h r.1) [ inl a ↦ inl (n, a) | inr b ↦ inr b ]
+      | inl e ↦ inr (row_from x ys g e r.0)
+      | inr n ↦ elim (unions_from xs ys g r.1) [ inl a ↦ inl (n, a) | inr b ↦ inr b ]
     ]
 
 pub means_unions : (xs ys : List ℕ) → Means (unions xs ys) (λ g. Meets xs g ⊎ Meets ys g)
-means_unions xs ys g h =
-    (unions_from xs ys g h, λ s. elim s [ inl a ↦ unions_left xs ys g h a | inr b ↦ unions_right xs ys g h b ])
+means_unions xs ys g _ =
+    (unions_from xs ys g, λ s. elim s [ inl a ↦ unions_left xs ys g a | inr b ↦ unions_right xs ys g b ])
 
 -- a row more
 pub unions_push : (xs : List ℕ) (x : ℕ) (ys : List ℕ) → unions (xs ++ x ∷ []) ys ≡ unions xs ys ++ map (bit_or x) ys

@@ -1,5 +1,5 @@
 -- A reduced list is rising, none of it contains another, and it means the same. Assumes nothing.
-use Rattle.std.proofs.Common.{◌≡◌, ℕ, zero, suc, ◌*◌, ◌^◌, ◌<◌, Bool, true, false, cond, not, eqb, ltb, ◌⊎◌, List, [], ◌∷◌, length, get_or, filter, sym, refl, ap, ◌∙◌, subst, inl, inr, true≢false, pow-suc, arith}
+use Rattle.std.proofs.Common.{◌≡◌, ℕ, zero, suc, ◌<◌, Bool, true, false, cond, not, eqb, ltb, ◌⊎◌, List, [], ◌∷◌, length, get_or, filter, sym, refl, ap, ◌∙◌, subst, inl, inr, true≢false, arith}
 use lib.Bits.{bit_and, and_le_l, and_le_r}
 use Rattle.std.specs.List.{AllByRecursion}
 use Rattle.std.proofs.ByRecursion.{All-weaker, all_kept_by, kept_by_passes, All-get_or, All-from_get_or}
@@ -129,12 +129,8 @@ module _ (P : ℕ → Type 0) (up : (c d : ℕ) → bit_and d c ≡ d → P d �
   pub all_unreduced : AllByRecursion P xs
   all_unreduced = in_all P xs (λ c i. below (suc c) c (omega arith) i)
 
-lt_two_pow : (n : ℕ) → n < 2 ^ n
-lt_two_pow zero = omega arith
-lt_two_pow (suc n) = let p : 2 ^ suc n ≡ 2 ^ n * 2 = pow-suc 2 n in let h = lt_two_pow n in omega arith
-
 pub shares_up : (g c d : ℕ) → bit_and d c ≡ d → Shares d g → Shares c g
-shares_up g c d p s e = s (widens d d c g (lt_two_pow d) p e)
+shares_up g c d p s e = s (widens d c g p e)
 
 pub alike_reduced : (xs : List ℕ) → Alike xs (reduced xs)
 alike_reduced xs = (

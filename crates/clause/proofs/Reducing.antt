@@ -19,7 +19,7 @@ pub record Chosen (list : List ℕ) (v : ℕ → ℕ) (n : ℕ) : Type 0 where
 pub chosen_none : (list : List ℕ) (v : ℕ → ℕ) → Chosen list v 0
 chosen_none list v = record { rising = λ i j l h. omega arith; apart = λ i j l h. omega arith; from = λ i h. absurd (omega arith); minimal = λ i h. absurd (omega arith); above = λ k l f i h. omega arith }
 
-module _ (list : List ℕ) (v v' : ℕ → ℕ) (n c : ℕ) (fits : (k : ℕ) → get_or list k 0 < 65536) (old : (i : ℕ) → i < n → v' i ≡ v i) (at : v' n ≡ c) where
+module _ (list : List ℕ) (v v' : ℕ → ℕ) (n c : ℕ) (old : (i : ℕ) → i < n → v' i ≡ v i) (at : v' n ≡ c) where
   pub chosen_more : Chosen list v n
       → (k : ℕ) → k < length list → get_or list k 0 ≡ c
       → ((i : ℕ) → i < n → Part (v i) c → ⊥)
@@ -40,7 +40,7 @@ module _ (list : List ℕ) (v v' : ℕ → ℕ) (n c : ℕ) (fits : (k : ℕ) �
       λ k l p. omega (
         arith,
         subst (λ x. x ≤ c) p (and_le_r (get_or list k 0) c),
-        least k l (λ i h q. beside i h (part_trans 16 (v i) (get_or list k 0) c (let w = ch.from i h in omega (arith, fits w.0, w.2)) q p)),
+        least k l (λ i h q. beside i h (part_trans (v i) (get_or list k 0) c q p)),
       ) in
       record {
         rising = λ i j l h. rising' j h i l;
@@ -95,7 +95,7 @@ has_minimal list ys fl fy v n ch same i h =
     let y : ℕ = get_or ys o.0 0 in
     let u = over_from list ys fl fy same.0 o.0 o.1 in
     let x : ℕ = get_or list u.0 0 in
-    let e : x ≡ v i = ch.minimal i h u.0 u.1 (part_trans 16 x y (v i) (fl u.0) u.2 o.2) in
+    let e : x ≡ v i = ch.minimal i h u.0 u.1 (part_trans x y (v i) u.2 o.2) in
     (o.0, o.1, part_antisym y (v i) o.2 (subst (λ z. Part z y) e u.2))
 
 -- so no shorter list of clauses means the same
@@ -142,14 +142,12 @@ none_shorter list ys fl v n ch short same =
     ((λ g h m. (meets_lowered ys g h).0 (same.0 g h m)), (λ g h m. same.1 g h ((meets_lowered ys g h).1 m)))
 
 -- the chosen mean the same as the list once no clause is left
-pub chosen_alike : (list xs : List ℕ) (v : ℕ → ℕ) (n : ℕ) → ((k : ℕ) → get_or list k 0 < 65536) → length xs ≡ n → ((i : ℕ) → i < n → get_or xs i 0 ≡ v i) → Chosen list v n → ((k : ℕ) → k < length list → Over xs (get_or list k 0)) → Alike list xs
-chosen_alike list xs v n fl len is ch over = (
+pub chosen_alike : (list xs : List ℕ) (v : ℕ → ℕ) (n : ℕ) → length xs ≡ n → ((i : ℕ) → i < n → get_or xs i 0 ≡ v i) → Chosen list v n → ((k : ℕ) → k < length list → Over xs (get_or list k 0)) → Alike list xs
+chosen_alike list xs v n len is ch over = (
   implied list xs (λ j l.
       let w = ch.from j (omega arith) in
       let e : get_or xs j 0 ≡ get_or list w.0 0 = is j (omega arith) ∙ sym w.2 in
-      (w.0, w.1, fl w.0, ap (bit_and (get_or list w.0 0)) e ∙ and_self (get_or list w.0 0))),
+      (w.0, w.1, ap (bit_and (get_or list w.0 0)) e ∙ and_self (get_or list w.0 0))),
   implied xs list (λ j l.
-      let o = over j l in
-      let w = ch.from o.0 (omega arith) in
-      (o.0, o.1, omega (arith, is o.0 (omega arith), w.2, fl w.0), o.2)),
+      over j l),
 )

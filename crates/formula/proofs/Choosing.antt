@@ -49,7 +49,7 @@ module _ (list xs : List ℕ) (c : ℕ) (fits : Sixteen list) (ch : ChosenOf lis
   pub chosen_next : ChosenOf list ys
   chosen_next =
       subst (Chosen list (λ i. get_or ys i 0)) (sym (length-append xs (c ∷ [])))
-      (chosen_more list (λ i. get_or xs i 0) (λ i. get_or ys i 0) (length xs) c fits before last ch found.place found.inside found.is
+      (chosen_more list (λ i. get_or xs i 0) (λ i. get_or ys i 0) (length xs) c before last ch found.place found.inside found.is
       (λ i h p. found.beside (i, h, p)) (λ k l f. found.least k l (λ o. f o.0 o.1 o.2)))
 
   pub chosen_behind : Behind xs c
@@ -64,8 +64,8 @@ module _ (list xs : List ℕ) (c : ℕ) (fits : Sixteen list) (ch : ChosenOf lis
   crowded e zs short = none_shorter list zs fits (λ i. get_or ys i 0) (length ys) chosen_next (omega (arith, length-append xs (c ∷ [])))
 
 -- they mean the same once no clause is left
-pub chosen_all : (list xs : List ℕ) → Sixteen list → ChosenOf list xs → ((k : ℕ) → k < length list → Over xs (get_or list k 0)) → Alike list xs
-chosen_all list xs fits ch over = chosen_alike list xs (λ i. get_or xs i 0) (length xs) fits refl (λ i h. refl) ch over
+pub chosen_all : (list xs : List ℕ) → ChosenOf list xs → ((k : ℕ) → k < length list → Over xs (get_or list k 0)) → Alike list xs
+chosen_all list xs ch over = chosen_alike list xs (λ i. get_or xs i 0) (length xs) refl (λ i h. refl) ch over
 
 -- what the check knows of a list of clauses
 pub fits_sixteen : (xs : List ℕ) → ((i : ℕ) → Fits w16 (get_or xs i 0)) → Sixteen xs

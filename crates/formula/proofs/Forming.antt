@@ -45,8 +45,8 @@ formed_fits f xs s means =
     ap (λ (l : List ℕ). granted l) is ∙ sym (cond-true (fits (reduced xs)) (granted (reduced xs)) (refused 2 []) h)
 
 -- a formula of chosen clauses means what the list means once no clause of it is left
-pub means_chosen : (f : Formula) (list : List ℕ) → Sixteen list → ChosenOf list (clauses_of f) → ((k : ℕ) → k < length list → Over (clauses_of f) (get_or list k 0)) → Means (clauses_of f) (Meets list)
-means_chosen f list s ch over = let same = chosen_all list (clauses_of f) s ch over in λ g h. (same.1 g h, same.0 g h)
+pub means_chosen : (f : Formula) (list : List ℕ) → ChosenOf list (clauses_of f) → ((k : ℕ) → k < length list → Over (clauses_of f) (get_or list k 0)) → Means (clauses_of f) (Meets list)
+means_chosen f list ch over = let same = chosen_all list (clauses_of f) ch over in λ g h. (same.1 g h, same.0 g h)
 
 -- eight that are chosen and one more: no eight clauses mean what the list means
 pub means_crowded : (list xs : List ℕ) (c : ℕ) → Sixteen list → ChosenOf list xs → Least list (length list) xs c → length xs ≡ 8 → (ys : List ℕ) → length ys ≤ 8 → Means ys (Meets list) → ⊥

@@ -65,7 +65,7 @@ module _ (missed needs more : List ℕ) where
           meets = m.meets;
           place = i;
           early = omega arith;
-          misses = and_comm c g ∙ wider 16 g (65535 - c) c h m.inside (and_comm (65535 - c) c ∙ apart 16 c (65535 - c) (omega (arith, fits)));
+          misses = and_comm c g ∙ wider g (65535 - c) c m.inside (and_comm (65535 - c) c ∙ apart 16 c (65535 - c) (omega (arith, fits)));
         }
       ])
       (λ g h m. elim (cases_order m.place i) [

@@ -1,7 +1,8 @@
 -- Leaving out one party after another, from the highest down.
-use Rattle.std.proofs.Common.{◌≡◌, ℕ, zero, suc, ◌+◌, ◌-◌, ◌*◌, ◌/◌, ◌%◌, ◌^◌, ◌<◌, ◌≤◌, sym, ap, ◌∙◌, subst, inl, inr, add-mul, pow-suc, zero-mul, arith}
-use lib.Bits.{bit_and, and_step, and_high, and_comm, and_self, and_le_l}
-use Rattle.std.proofs.lemmas.Nat.{shr_high, shr-shr, shr_split, pow_pos, pow_below, pow-add, mod_below}
+use Rattle.std.proofs.Common.{◌≡◌, ℕ, ◌+◌, ◌-◌, ◌*◌, ◌/◌, ◌%◌, ◌^◌, ◌<◌, ◌≤◌, sym, ap, ◌∙◌, subst, inl, inr, add-mul, zero-mul, arith}
+use lib.Bits.{bit_and, and_comm, and_self, and_le_l}
+use Rattle.std.proofs.lemmas.Nat.{and_assoc, shr_high, shr-shr, shr_split, pow_pos, pow_below, mod_below}
+use Rattle.std.proofs.lemmas.Nat.Bits.{and_pow}
 use Rattle.std.proofs.lemmas.Bool.{cases_eq}
 use Rattle.clause.specs.Parts.{Part}
 use Rattle.clause.proofs.Bitsets.{split, part_trans}
@@ -12,32 +13,11 @@ abbrev pub without : ℕ → ℕ → ℕ
 without g party = bit_and g (65535 - 2 ^ party)
 
 -- what lies in two groups lies in what they share
-pub part_both : (k g a b : ℕ) → g < 2 ^ k → Part g a → Part g b → Part g (bit_and a b)
-part_both zero g a b h p q = let z : g ≡ 0 = omega arith in ap (λ x. bit_and x (bit_and a b)) z ∙ sym z
-part_both (suc k) g a b h p q =
-    let t : 2 ^ suc k ≡ 2 ^ k * 2 = pow-suc 2 k in
-    let p' : bit_and (g / 2) (a / 2) ≡ g / 2 = omega (arith, and_step g a) in
-    let q' : bit_and (g / 2) (b / 2) ≡ g / 2 = omega (arith, and_step g b) in
-    let ih = part_both k (g / 2) (a / 2) (b / 2) (omega arith) p' q' in
-    let o : bit_and a b / 2 ≡ bit_and (a / 2) (b / 2) = omega (arith, and_step a b) in
-    let i : bit_and (g / 2) (bit_and a b / 2) ≡ g / 2 = ap (bit_and (g / 2)) o ∙ ih in
-    omega (arith, and_step g a, and_step g b, and_step a b, and_step g (bit_and a b))
+pub part_both : (g a b : ℕ) → Part g a → Part g b → Part g (bit_and a b)
+part_both g a b p q = sym (and_assoc b g a) ∙ ap (λ x. bit_and x b) p ∙ q
 
-pub part_meet : (k g h : ℕ) → g < 2 ^ k → Part (bit_and g h) g
-part_meet zero g h l = let z : g ≡ 0 = omega arith in ap (λ x. bit_and (bit_and x h) x) z ∙ sym (ap (λ x. bit_and x h) z)
-part_meet (suc k) g h l =
-    let t : 2 ^ suc k ≡ 2 ^ k * 2 = pow-suc 2 k in
-    let ih = part_meet k (g / 2) (h / 2) (omega arith) in
-    let o : bit_and g h / 2 ≡ bit_and (g / 2) (h / 2) = omega (arith, and_step g h) in
-    let i : bit_and (bit_and g h / 2) (g / 2) ≡ bit_and (g / 2) (h / 2) = ap (λ x. bit_and x (g / 2)) o ∙ ih in
-    omega (arith, and_step g h, and_step (bit_and g h) g)
-
--- one bit of a group
-pub bit_of : (g k : ℕ) → bit_and g (2 ^ k) ≡ (g / 2 ^ k % 2) * 2 ^ k
-bit_of g k =
-    let p : 2 ^ (1 + k) ≡ 2 ^ 1 * 2 ^ k = pow-add 2 1 k in
-    let q : 2 ^ (1 + k) - 2 ^ k ≡ 2 ^ k = omega arith in
-    ap (bit_and g) (sym q) ∙ and_high g 1 k
+pub part_meet : (g h : ℕ) → Part (bit_and g h) g
+part_meet g h = and_assoc g g h ∙ ap (bit_and g) (and_comm h g) ∙ sym (and_assoc h g g) ∙ ap (λ x. bit_and x h) (and_self g)
 
 half : (n k : ℕ) → n / 2 ^ (k + 1) ≡ n / 2 ^ k / 2
 half n k = sym (shr-shr n k 1)
@@ -47,7 +27,7 @@ in_range k h = pow_below k 16 h
 
 -- a group without a party has the rest of its bits
 pub without_is : (g k : ℕ) → g < 65536 → k < 16 → without g k + (g / 2 ^ k % 2) * 2 ^ k ≡ g
-without_is g k h l = omega (arith, bit_of g k, split 16 g (2 ^ k) (65535 - 2 ^ k) (omega (arith, in_range k l)) h)
+without_is g k h l = omega (arith, and_pow g k, split 16 g (2 ^ k) (65535 - 2 ^ k) (omega (arith, in_range k l)) h)
 
 without_high : (g k : ℕ) → g < 65536 → k < 16 → without g k / 2 ^ k ≡ g / 2 ^ k / 2 * 2
 without_high g k h l =
@@ -61,8 +41,8 @@ without_high g k h l =
 -- a group that lacks the party lies in what is left
 pub without_holds : (g group k : ℕ) → g < 65536 → k < 16 → Part g group → g / 2 ^ k % 2 ≡ 0 → Part g (without group k)
 without_holds g group k h l p e =
-    let b : bit_and (2 ^ k) g ≡ 0 = and_comm (2 ^ k) g ∙ bit_of g k ∙ ap (λ x. x * 2 ^ k) e ∙ zero-mul (2 ^ k) in
-    part_both 16 g group (65535 - 2 ^ k) h p (beside (2 ^ k) g (in_range k l) h b)
+    let b : bit_and (2 ^ k) g ≡ 0 = and_comm (2 ^ k) g ∙ and_pow g k ∙ ap (λ x. x * 2 ^ k) e ∙ zero-mul (2 ^ k) in
+    part_both g group (65535 - 2 ^ k) p (beside (2 ^ k) g (in_range k l) h b)
 
 module _ (allowed : ℕ) (P : ℕ → Type 0) where
   -- the bits from k up are those of the lowest group inside `allowed` that P holds of, those below are all of `allowed`'s
@@ -90,7 +70,7 @@ module _ (allowed : ℕ) (P : ℕ → Type 0) where
         let high = without_high group k n.small l in
         record {
           small = omega (arith, and_le_l group (65535 - 2 ^ k), n.small);
-          inside = part_trans 16 (without group k) group allowed (omega (arith, and_le_l group (65535 - 2 ^ k), n.small)) (part_meet 16 group (65535 - 2 ^ k) n.small) n.inside;
+          inside = part_trans (without group k) group allowed (part_meet group (65535 - 2 ^ k)) n.inside;
           holds = p;
           least = λ g h i m. omega (arith, n.least g h i m, half g k, half group k, high);
           within = λ g h i e. without_holds g group k h l (n.within g h i (same-high g (omega (arith, e, high)))) (omega (arith, e, high));

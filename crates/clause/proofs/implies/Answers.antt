@@ -15,9 +15,4 @@ returns-in-sought c =
     )
 
 pub returns : goal.returns
-returns c =
-    let fits : (k : ℕ) → get_or c.args.first.now k 0 < 65536 = λ k. let h = c.type_inv.first k in omega arith in (
-      λ _. implied c.args.first.now c.args.second.now
-          (λ j h. let w = c.sought.invariant j (omega arith) in (w.0, w.1, fits w.0, w.2)),
-      λ _. refl,
-    )
+returns c = (λ _. implied c.args.first.now c.args.second.now (λ j h. c.sought.invariant j (omega arith)), λ _. refl)

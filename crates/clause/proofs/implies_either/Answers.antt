@@ -13,7 +13,7 @@ returns-then-meets c =
     let i = c.loop-x.x-index in
     let j = c.loop-y.y-index in (
       λ e. absurd (false≢true e),
-      λ imp. absurd (not_either first a b i j c.loop-x-test.true c.loop-y-test.true (omega arith) (omega arith)
+      λ imp. absurd (not_either first a b i j c.loop-x-test.true c.loop-y-test.true
           (or_lt 16 (get_or a i 0) (get_or b j 0) (omega arith) (omega arith)) (subst (Meets first) c.outside.ensures (c.if-meets.ensures.0 refl)) imp),
     )
 

@@ -39,5 +39,5 @@ returns c =
     let list = c.args.list.now in
     let f = c.loop-clause.formula in
     let over = subst (λ (l : List ℕ). Found list (length list) l None) c.as_slice.ensures.is c.in_default-least_beside.ensures in
-    let means = means_chosen f list (fits_sixteen _ c.type_inv.list) c.loop-clause.invariant over in
+    let means = means_chosen f list c.loop-clause.invariant over in
     record { answer = formed_fits f list (fits_sixteen _ c.type_inv.list) means; means = means }
