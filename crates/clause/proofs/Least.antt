@@ -1,5 +1,6 @@
 -- What `least` finds. Assumes nothing.
 use Rattle.std.proofs.Common.{◌≡◌, ℕ, zero, suc, ◌+◌, ◌<◌, Bool, true, false, ◌⊎◌, Some, None, Option, refl, subst, inl, inr, le_of_suc-le-suc, not-suc-le-zero, eq-or-lt_of_le, add-one, arith}
+use Rattle.std.proofs.lemmas.Option.{none-some}
 use Rattle.clause.specs.Groups.{least, next_least}
 
 -- one number more, at which p fails
@@ -56,9 +57,6 @@ pub record Found (p : ℕ → Bool) (n g : ℕ) : Type 0 where
   pub holds : p g ≡ true
   pub first : (k : ℕ) → k < g → p k ≡ false
 
-never : (g : ℕ) → None ≡ Some g → ⊥
-never g e = let z : ◌≡◌ {A = ℕ} 0 1 = cc in omega arith
-
 found_next : (p : ℕ → Bool) (n g : ℕ) (b : Bool) (o : Option ℕ) → p n ≡ b → least p n ≡ o → ((x : ℕ) → o ≡ Some x → Found p n x) → next_least b n o ≡ Some g → Found p (suc n) g
 found_next p n g b (Some x) e l ih s =
     let same : x ≡ g = cc in
@@ -67,9 +65,9 @@ found_next p n g b (Some x) e l ih s =
 found_next p n g true None e l ih s =
     let same : n ≡ g = cc in
     record { below = omega (arith, same); holds = subst (λ (k : ℕ). p k ≡ true) same e; first = λ k h. least_none p n l k (omega (arith, h, same)) }
-found_next p n g false None e l ih s = absurd (never g s)
+found_next p n g false None e l ih s = absurd (none-some g s)
 
 pub least_found : (p : ℕ → Bool) (n g : ℕ) → least p n ≡ Some g → Found p n g
 unfolding least
-least_found p zero g e = absurd (never g e)
+least_found p zero g e = absurd (none-some g e)
 least_found p (suc n) g e = found_next p n g (p n) (least p n) refl refl (λ x q. least_found p n x q) e

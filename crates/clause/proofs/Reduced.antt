@@ -3,7 +3,7 @@ use Rattle.std.proofs.Common.{◌≡◌, ℕ, zero, suc, ◌<◌, Bool, true, fa
 use lib.Bits.{bit_and, and_le_l, and_le_r}
 use Rattle.std.specs.List.{AllByRecursion}
 use Rattle.std.proofs.ByRecursion.{All-weaker, all_kept_by, kept_by_passes, All-get_or, All-from_get_or}
-use Rattle.std.proofs.lemmas.Bool.{eqb-true, eqb-false, ltb-true, ltb-false, and_parts, and_cases, or_cases, or_parts, cases_Bool, cases_lt, both_ways}
+use Rattle.std.proofs.lemmas.Bool.{eqb-true, eqb-false, ltb-true, ltb-false, and_parts, and_cases, or_cases, or_parts, cases_Bool, cases_lt, both_ways, not-true, not-false}
 use Rattle.std.proofs.lemmas.List.{get_or_past}
 use Rattle.clause.specs.Meaning.{Shares, Alike}
 use Rattle.clause.proofs.Bitsets.{wider as widens}
@@ -83,14 +83,6 @@ some_yes p (x ∷ xs) e =
       | inr h ↦ let w = some_yes p xs h in (w.0, inr w.1, w.2)
     ]
 
-not_yes : (b : Bool) → not b ≡ true → b ≡ false
-not_yes true e = sym e
-not_yes false e = refl
-
-not_no : (b : Bool) → not b ≡ false → b ≡ true
-not_no true e = refl
-not_no false e = sym e
-
 in_kept : (p : ℕ → Bool) (xs : List ℕ) (c : ℕ) → p c ≡ true → In c xs → In c (filter p xs)
 in_kept p [] c e i = i
 in_kept p (x ∷ xs) c e (inl q) = by_cond (In c) (p x) _ _ (λ _. inl q) (λ f. absurd (both_ways (p x) f (ap p (sym q) ∙ e)))
@@ -118,11 +110,11 @@ module _ (P : ℕ → Type 0) (up : (c d : ℕ) → bit_and d c ≡ d → P d �
       elim (cases_Bool (minimal xs c)) [
         | inl e ↦ all_in P (reduced xs) c a (in_arranged c (filter (minimal xs) xs) (in_kept (minimal xs) xs c e i))
         | inr e ↦
-            let w = some_yes (wider c) xs (not_no (some (wider c) xs) e) in
+            let w = some_yes (wider c) xs (not-false (some (wider c) xs) e) in
             let d : ℕ = w.0 in
             let h = and_parts (eqb (bit_and d c) d) (not (eqb d c)) w.2 in
             let p : bit_and d c ≡ d = eqb-true (bit_and d c) d h.0 in
-            let q = eqb-false d c (not_yes (eqb d c) h.1) in
+            let q = eqb-false d c (not-true (eqb d c) h.1) in
             up c d p (below n d (omega (arith, and_le_r d c, p, q)) w.1)
       ]
 
@@ -140,13 +132,13 @@ alike_reduced xs = (
 
 -- of two that are left, the second does not contain the first
 apart_by : (xs : List ℕ) (y : ℕ) → minimal xs y ≡ true → AllByRecursion (λ x. wider y x ≡ false) xs
-apart_by xs y e = some_no (wider y) xs (not_yes (some (wider y) xs) e)
+apart_by xs y e = some_no (wider y) xs (not-true (some (wider y) xs) e)
 
-less : (x y : ℕ) → x < y → wider y x ≡ false → bit_and x y < x
+pub less : (x y : ℕ) → x < y → wider y x ≡ false → bit_and x y < x
 less x y l e =
     elim (and_cases (eqb (bit_and x y) x) (not (eqb x y)) e) [
       | inl f ↦ let n = eqb-false (bit_and x y) x f in omega (arith, and_le_l x y)
-      | inr f ↦ let q = eqb-true x y (not_no (eqb x y) f) in absurd (omega arith)
+      | inr f ↦ let q = eqb-true x y (not-false (eqb x y) f) in absurd (omega arith)
     ]
 
 pub antichain_reduced : (xs : List ℕ) → Antichain (reduced xs)

@@ -3,6 +3,7 @@ use Rattle.std.proofs.Common.{◌≡◌, ℕ, ◌<◌, Bool, true, false, not, �
 use lib.Bits.{bit_and}
 use Rattle.std.proofs.lemmas.Bool.{eqb-true, eq-eqb, both_ways, cases_Bool}
 use Rattle.std.proofs.lemmas.Bool.Decides.{Decides-and, Decides-not, Decides-like, same_from_decides}
+pub use Rattle.std.proofs.lemmas.Bool.{false_from_ne_true as not_true}
 use Rattle.clause.specs.Meaning.{Meets, BothImply}
 use Rattle.clause.specs.Groups.{met, lowest, is_none, nobody, within}
 use Rattle.clause.proofs.Least.{least_none, none_least}
@@ -12,10 +13,6 @@ met_decides [] g = (λ _. tt, λ _. refl)
 met_decides (c ∷ cs) g =
     Decides-and (not (eqb (bit_and c g) 0)) (met cs g)
     (Decides-not (eqb (bit_and c g) 0) (eqb-true (bit_and c g) 0, eq-eqb (bit_and c g) 0)) (met_decides cs g)
-
-pub not_true : (b : Bool) → (b ≡ true → ⊥) → b ≡ false
-not_true true h = absurd (h refl)
-not_true false h = refl
 
 pub none_is : (o : Option ℕ) → is_none o ≡ true → o ≡ None
 none_is None e = refl

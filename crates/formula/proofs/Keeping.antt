@@ -1,28 +1,20 @@
 -- Lists of clauses in kept form.
-use Rattle.std.proofs.Common.{◌≡◌, ℕ, suc, ◌<◌, ◌⊎◌, true, false, not, eqb, ltb, leb, List, [], ◌∷◌, length, get_or, take, Some, None, sym, refl, ap, ◌∙◌, subst, inl, inr, arith, length-take}
-use lib.Bits.{bit_and, and_le_l}
+use Rattle.std.proofs.Common.{◌≡◌, ℕ, suc, ◌<◌, ◌⊎◌, true, false, not, eqb, ltb, leb, List, [], ◌∷◌, length, get_or, take, Some, None, sym, refl, ◌∙◌, subst, inl, inr, arith, length-take}
+use lib.Bits.{bit_and}
 use Rattle.std.specs.List.{AllByRecursion}
 use Rattle.std.proofs.ByRecursion.{All-from_get_or}
-use Rattle.std.proofs.lemmas.Bool.{and_parts, and_from, lt-ltb, ltb-true, le-leb, leb-true, eqb-true, eqb-false, ne_eqb, not-true, not-false, not_from_false, and_cases, and_left, cases_Bool, cond-true, cond-false}
+use Rattle.std.proofs.lemmas.Bool.{and_parts, and_from, lt-ltb, ltb-true, le-leb, leb-true, ne_eqb, not-true, not_from_false, and_left, cases_Bool, cond-true, cond-false}
 use Rattle.std.proofs.lemmas.List.{get_or-take, get_or_default}
-use Rattle.answer.specs.Told.{granted}
+use Rattle.std.proofs.lemmas.Option.{none-some}
 use Rattle.clause.specs.Reduced.{wider, reduced}
 use Rattle.clause.proofs.Canonical.{Rises, Antichain, KeptForm, canonical}
-use Rattle.clause.proofs.Reduced.{Pairs, pairs_get_d, alike_reduced, form_reduced}
+use Rattle.clause.proofs.Reduced.{Pairs, pairs_get_d, less, alike_reduced, form_reduced}
 use Rattle.formula.specs.declared.kept.Formula.{Formula}
 use Rattle.formula.specs.Kept.{Beside, Behind, Sixteen}
 use Rattle.formula.specs.Of.{clauses_of}
-use Rattle.formula.specs.Forms.{fitting}
 use Rattle.formula.specs.Keeping.{apart, apart_all, ordered, kept, keeping, KeptIsReduced}
 use Rattle.formula.proofs.Choosing.{form}
 use Rattle.formula.proofs.Forming.{eight}
-
-less : (c d : ℕ) → c < d → wider d c ≡ false → bit_and c d < c
-less c d l e =
-    elim (and_cases (eqb (bit_and c d) c) (not (eqb c d)) e) [
-      | inl f ↦ let n = eqb-false (bit_and c d) c f in omega (arith, and_le_l c d)
-      | inr f ↦ let q = eqb-true c d (not-false (eqb c d) f) in absurd (omega arith)
-    ]
 
 beside : (c d : ℕ) → apart c d ≡ true → Beside c d
 beside c d e =
@@ -94,21 +86,15 @@ pub keeping_some : (xs list : List ℕ) → Some xs ≡ keeping list → (kept l
 keeping_some xs list e =
     elim (cases_Bool (kept list)) [
       | inl h ↦ let p : Some xs ≡ Some list = e ∙ cond-true (kept list) (Some list) None h in (h, cc)
-      | inr h ↦ let p : Some xs ≡ None = e ∙ cond-false (kept list) (Some list) None h in absurd (let z : ◌≡◌ {A = ℕ} 0 1 = cc in omega arith)
+      | inr h ↦ let p : Some xs ≡ None = e ∙ cond-false (kept list) (Some list) None h in absurd (none-some xs (sym p))
     ]
 
 pub keeping_none : (list : List ℕ) → None ≡ keeping list → kept list ≡ false
 keeping_none list e =
     elim (cases_Bool (kept list)) [
-      | inl h ↦ let p : None ≡ Some list = e ∙ cond-true (kept list) (Some list) None h in absurd (let z : ◌≡◌ {A = ℕ} 0 1 = cc in omega arith)
+      | inl h ↦ let p : None ≡ Some list = e ∙ cond-true (kept list) (Some list) None h in absurd (none-some list p)
       | inr h ↦ h
     ]
-
--- a list of one clause is in kept form as it is
-pub one_reduced : (xs ys : List ℕ) → length xs ≡ 1 → Sixteen xs → ys ≡ get_or xs 0 0 ∷ [] → (granted ys ≡ fitting (reduced xs)) × (ys ≡ xs)
-one_reduced [] ys l s e = absurd (omega (arith, l))
-one_reduced (x ∷ []) ys l s e = (ap granted e ∙ sym (ap fitting ((kept_is_reduced (x ∷ []) s).0 refl).1), e)
-one_reduced (x ∷ y ∷ zs) ys l s e = absurd (omega (arith, l))
 
 -- a clause of a list in kept form may stand behind those before it
 pub behind_first : (xs : List ℕ) (i : ℕ) → i < length xs → ordered xs ≡ true → Behind (take i xs) (get_or xs i 0)

@@ -2,14 +2,14 @@
 use Rattle.std.proofs.Common.{◌≡◌, ℕ, ◌+◌, ◌-◌, ◌<◌, ◌≤◌, min, Bool, true, not, ◌&&◌, ◌||◌, ◌⊎◌, List, length, get_or, Some, None, Decides, Option, sym, refl, ap, ◌∙◌, subst, inl, inr, arith}
 use lib.Bits.{bit_and, and_comm}
 use Rattle.std.proofs.ByRecursion.{All-get_or}
-use Rattle.std.proofs.lemmas.Bool.{cases_order, both_ways, or_cases, or_left, or_right}
+use Rattle.std.proofs.lemmas.Bool.{cases_order, both_ways, false_from_ne_true, or_cases, or_left, or_right}
 use Rattle.clause.specs.Meaning.{Shares, Meets}
 use Rattle.clause.specs.Parts.{Part}
 use Rattle.clause.proofs.Bitsets.{apart, wider}
 use Rattle.clause.proofs.Covering.{found, beside, grows}
 use Rattle.clause.specs.Groups.{met, lowest, earlier}
 use Rattle.clause.proofs.Least.{least_at, none_least, least_none, least_found}
-use Rattle.clause.proofs.Tests.{not_true, met_decides}
+use Rattle.clause.proofs.Tests.{met_decides}
 use Rattle.std.proofs.lemmas.Bool.Decides.{Decides-and, Decides-not, Decides-like}
 use Rattle.lowest.specs.First.{Lowest, First, Fitting, Missing}
 
@@ -87,9 +87,9 @@ module _ (missed needs more : List ℕ) where
 
 -- the first group is the lowest that a test finds
 pub first_is : (p : ℕ → Bool) (P : ℕ → Type 0) → ((g : ℕ) → Decides (p g) (P g)) → (o : Option ℕ) → First P o → o ≡ lowest p
-first_is p P d None f = sym (none_least p 65536 (λ g l. not_true (p g) (λ e. f g l ((d g).0 e))))
+first_is p P d None f = sym (none_least p 65536 (λ g l. false_from_ne_true (p g) (λ e. f g l ((d g).0 e))))
 first_is p P d (Some x) f =
-    sym (least_at p 65536 x f.parties (none_least p x (λ k l. not_true (p k) (λ e. f.least k l ((d k).0 e)))) ((d x).1 f.holds))
+    sym (least_at p 65536 x f.parties (none_least p x (λ k l. false_from_ne_true (p k) (λ e. f.least k l ((d k).0 e)))) ((d x).1 f.holds))
 
 pub missing_decides : (missed needs more : List ℕ) (g : ℕ) → Decides ((met needs g && met more g) && not (met missed g)) (Missing missed needs more g)
 missing_decides missed needs more g =

@@ -53,14 +53,6 @@ module _ (allowed : ℕ) (P : ℕ → Type 0) where
     pub least : (g : ℕ) → g < 65536 → Part g allowed → P g → group / 2 ^ k ≤ g / 2 ^ k
     pub within : (g : ℕ) → g < 65536 → Part g allowed → g / 2 ^ k ≡ group / 2 ^ k → Part g group
 
-  pub narrow_start : allowed < 65536 → P allowed → Narrowed 16 allowed
-  narrow_start h p =
-      record { small = h; inside = and_self allowed; holds = p; least = λ g l i m. omega arith; within = λ g l i e. i }
-
-  pub narrow_end : (k group : ℕ) → k ≤ 0 → Narrowed k group → (g : ℕ) → g < group → Part g allowed → P g → ⊥
-  narrow_end k group none n g l i p =
-      let all : Narrowed 0 group = subst (λ j. Narrowed j group) (omega arith) n in omega (arith, all.least g (omega (arith, n.small)) i p)
-
   module _ (grows : (g other : ℕ) → g < 65536 → Part g other → P g → P other) (group k : ℕ) (l : k < 16) (n : Narrowed (k + 1) group) where
     same-high : (g : ℕ) → g / 2 ^ k / 2 ≡ group / 2 ^ k / 2 → g / 2 ^ (k + 1) ≡ group / 2 ^ (k + 1)
     same-high g e = half g k ∙ e ∙ sym (half group k)

@@ -1,17 +1,10 @@
-use Rattle.std.proofs.Common.{ℕ, List, length, Some, None, sym, subst, arith, ltb-false, ltb-true}
+use Rattle.std.proofs.Common.{ℕ, List, length, Some, None, sym, subst}
 use Rattle.std.proofs.lemmas.Bool.{eqb-true}
-use Rattle.clause.specs.Meaning.{Meets}
 use Rattle.clause.specs.Parts.{Found}
 use Rattle.formula.specs.Of.{clauses_of}
-use Rattle.formula.proofs.Keeping.{one_reduced}
 use Rattle.formula.proofs.Choosing.{ChosenOf, chosen_next, chosen_behind, fits_sixteen}
 use Rattle.formula.proofs.Forming.{formed_fits, formed_large, means_chosen, means_crowded}
 use Rattle.formula.proofs.kept.Formula.shrink.Goals as goal
-
-pub returns-in-len1 : goal.returns-in-len1
-returns-in-len1 c =
-    let one = one_reduced c.args.list.now (clauses_of c.of_clause.result) (omega (arith, ltb-true, ltb-false)) (fits_sixteen _ c.type_inv.list) c.of_clause.ensures in
-    record { answer = one.0; means = λ g _. (subst (λ (l : List ℕ). Meets l g) one.1, subst (λ (l : List ℕ). Meets l g) (sym one.1)) }
 
 pub returns-then-is_full : goal.returns-then-is_full
 returns-then-is_full c =
