@@ -7,8 +7,8 @@ unfolding digits
 answers =
     record {
       texts = refl;
+      numbered_figure = refl;
       numbered = refl;
-      bytes = λ t b s. simp (b, s) refl;
       says_nothing = refl;
       says_figure = refl;
       says_refused = refl;

@@ -1,13 +1,11 @@
 -- What each answer says, and what is printed of it.
-use Rattle.std.specs.Prelude.{◌≡◌, ℕ, List, [], ◌∷◌, ◌++◌, map, replicate, Some, None, Ok, Err, codes}
+use Rattle.std.specs.Prelude.{◌≡◌, ℕ, List, [], ◌∷◌, map, Some, None, Ok, Err, codes}
 use Rattle.answer.specs.declared.Denial.TheVariants.{NotCovered, OutsideMode, AboveHigh, BelowLow, Steered}
 use Rattle.answer.specs.declared.Refusal.TheVariants.{LongList, LargeFormula, NoSuchNumber, LargeFigure, TaskState, RecordState, NoSuchManner, NotItsHand, NoFlow, LargeLabel, NotSeen, Denied, NoRoom, NotCarried, Missing, Unlawful, NoForm}
 use Rattle.answer.specs.declared.Answer.{Answer}
 use Rattle.answer.specs.declared.Answer.TheVariants.{Done, Figure, Refused}
 use Rattle.answer.specs.Told.{granted, refused, told, says, nothing, figure, question_of, group_of}
-use Rattle.answer.specs.declared.printed.Text.{Text}
 use Rattle.answer.specs.Text.{text, numbered}
-use Rattle.answer.specs.Written.{bytes_of}
 
 -- an answer, and its text
 abbrev pub texts : List (Answer × List ℕ)
@@ -43,9 +41,8 @@ texts =
 pub record Answers : Type 0 where
   pub texts : map (λ row. text (told row.0)) texts ≡ map (λ row. row.1) texts
   -- behind the number of its line
+  pub numbered_figure : numbered 0 (granted (9 ∷ [])) ≡ codes "0 ok 9"
   pub numbered : numbered 1024 (refused 16 (5 ∷ [])) ≡ codes "1024 16 0005"
-  -- a text holds its bytes from the start on
-  pub bytes : (t : Text) → t.bytes ≡ replicate 43 0 ++ codes "7 9" → t.start ≡ 44 → bytes_of t ≡ codes " 9"
   -- a result says its own values, or the refusal
   pub says_nothing : says nothing (Ok tt) ≡ granted []
   pub says_figure : says figure (Ok 7) ≡ granted (7 ∷ [])
