@@ -1,4 +1,5 @@
 //! The static library for C: each export calls the function of `exports` that has its name, with the same clauses.
+// They stand twice for the C interface: a static library's items cannot be imported, and tests cite those of `exports`.
 #![tactic(auto)]
 
 ghost use Rattle.std.specs.Prelude.{◌≡◌};
