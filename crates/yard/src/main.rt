@@ -30,6 +30,7 @@ fn run(rt: &HostRuntime, mut output: Output) -> anyhow::Result<()> {
     let mut input = BufReader::new(rt.alloc(), rt.stdin())?;
     let mut monitor = Monitor::new();
     let mut line = Vec::new(rt.alloc());
+    // the lines' numbers are the count that a loop over input needs
     for number in 1..u64::MAX {
         // nothing is left to read at once, so whoever waits for answers gets them now
         if input.buffer().is_empty() {
