@@ -15,6 +15,16 @@ struct Docket {
     entries: Vec<u8>,
 }
 
+impl Docket {
+    /// A docket in a new file of that name.
+    fn create(rt: &HostRuntime, name: &str) -> io::Result<Docket> {
+        Ok(Docket {
+            file: File::create_new(rt, name)?,
+            entries: Vec::new(rt.alloc()),
+        })
+    }
+}
+
 /// Where answers and docket entries go. Entries are in the file before their answers are printed.
 #[derive(Drop)]
 pub struct Output {
@@ -28,16 +38,10 @@ pub struct Output {
 impl Output {
     /// The output of a run, with a new docket file if one is named.
     pub fn open(rt: &HostRuntime, docket: Option<String>, explain: bool) -> anyhow::Result<Output> {
-        let docket = match docket {
-            Some(name) => Some(Docket {
-                file: File::create_new(rt, name.as_str())?,
-                entries: Vec::new(rt.alloc()),
-            }),
-            None => None,
-        };
+        let docket = docket.map(|name| Docket::create(rt, name.as_str()));
         Ok(Output {
             out: rt.stdout(),
-            docket,
+            docket: docket.transpose()?,
             answers: String::new(rt.alloc()),
             explain,
         })
