@@ -3,12 +3,12 @@ ghost use Rattle.words.specs.Hex.{hex_digit, hex_four};
 
 /// The value of a lowercase hexadecimal digit.
 // By hand, as `to_digit` takes capitals too.
-fn hex_digit(byte: u8) -> Option<u8>
+fn hex_digit(byte: u8) -> Option<u16>
     ensures { result ≡ hex_digit byte }
 {
     match byte {
-        b'0'..=b'9' => Some(byte - b'0'),
-        b'a'..=b'f' => Some(byte - b'a' + 10),
+        b'0'..=b'9' => Some(u16::from(byte - b'0')),
+        b'a'..=b'f' => Some(u16::from(byte - b'a') + 10),
         _ => None,
     }
 }
@@ -18,11 +18,11 @@ pub fn hex_four(word: &[u8]) -> Option<u16>
     ensures { result ≡ hex_four word.now }
 {
     match word {
-        [a, b, c, d] => {
-            let a = u16::from(hex_digit(*a)?);
-            let b = u16::from(hex_digit(*b)?);
-            let c = u16::from(hex_digit(*c)?);
-            let d = u16::from(hex_digit(*d)?);
+        &[a, b, c, d] => {
+            let a = hex_digit(a)?;
+            let b = hex_digit(b)?;
+            let c = hex_digit(c)?;
+            let d = hex_digit(d)?;
             Some(((a * 16 + b) * 16 + c) * 16 + d)
         }
         _ => None,
