@@ -40,7 +40,7 @@ reads_none ws l = record { same = go (hex_all ws); lawful = l }
     go None = refl
     go (Some cs) = refl
 
-pub reads_some : {list : List ℕ} {w : List ℕ} {ws : List (List ℕ)} {all : Option (List ℕ)} → Reads list (w ∷ ws) all → IsSome (hex_four w)
+reads_some : {list : List ℕ} {w : List ℕ} {ws : List (List ℕ)} {all : Option (List ℕ)} → Reads list (w ∷ ws) all → IsSome (hex_four w)
 reads_some {list} {w} {ws} {all} r = go (hex_four w) refl
   where
     go : (x : Option ℕ) → hex_four w ≡ x → IsSome x
@@ -51,14 +51,14 @@ after_step : (done : List ℕ) (c : ℕ) (o : Option (List ℕ)) → after done 
 after_step done c None = refl
 after_step done c (Some cs) = ap (λ (x : List ℕ). Some x) (sym (append_assoc done (c ∷ []) cs))
 
-pub reads_more : {list : List ℕ} {w : List ℕ} {ws : List (List ℕ)} {all : Option (List ℕ)} (c : ℕ) → hex_four w ≡ Some c → Reads list (w ∷ ws) all → Reads (list ++ c ∷ []) ws all
+reads_more : {list : List ℕ} {w : List ℕ} {ws : List (List ℕ)} {all : Option (List ℕ)} (c : ℕ) → hex_four w ≡ Some c → Reads list (w ∷ ws) all → Reads (list ++ c ∷ []) ws all
 reads_more {list} {w} {ws} c e r =
     record {
       same = sym (after_step list c (hex_all ws)) ∙ (ap (λ (x : Option ℕ). after list (cons_some x (hex_all ws))) (sym e) ∙ r.same);
       lawful = r.lawful;
     }
 
-pub reads_done : {list : List ℕ} {all : Option (List ℕ)} → Reads list [] all → reduces list ≡ reduces (or_none all)
+reads_done : {list : List ℕ} {all : Option (List ℕ)} → Reads list [] all → reduces list ≡ reduces (or_none all)
 reads_done {list} r = ap (λ (cs : List ℕ). reduces cs) (sym (append-nil list)) ∙ ap (λ (o : Option (List ℕ)). reduces (or_none o)) r.same
 
 long : (list : List ℕ) → 64 < length list → refused 1 [] ≡ reduces list
@@ -73,25 +73,28 @@ reads_long {list} {ws} {all} l r = go (hex_all ws) refl
     go (Some cs) e =
         long (list ++ cs) (omega (arith, length-append list cs, l)) ∙ ap (λ (o : Option (List ℕ)). reduces (or_none o)) (sym (ap (after list) e) ∙ r.same)
 
-module _ {S A B : Type 0} {steps : S → Option A → S → Type 0} {v : A → B} {s t : S} {all : List B} where
-  pub none_left : YieldsList steps v s all → steps s None t → all ≡ []
-  none_left y h = go all y.runs
+module _ {S A : Type 0} {steps : S → Option A → S → Type 0} {v : A → List ℕ} {s t : S} {rest : List (List ℕ)} {list : List ℕ} {all : Option (List ℕ)} (y : YieldsList steps v s rest) (r : Reads list rest all) where
+  -- no part is left
+  pub all_read : steps s None t → reduces list ≡ reduces (or_none all)
+  all_read h = go rest y.runs r
     where
-      go : (ws : List B) → AlwaysYields steps v s ws → ws ≡ []
-      go [] r = refl
-      go (w ∷ ws) r = absurd (r.0 t h)
+      go : (ws : List (List ℕ)) → AlwaysYields steps v s ws → Reads list ws all → reduces list ≡ reduces (or_none all)
+      go [] a q = reads_done q
+      go (w ∷ ws) a q = absurd (a.0 t h)
 
-  some_left : {x : A} → YieldsList steps v s all → steps s (Some x) t → (ws : List B) × (all ≡ v x ∷ ws) × YieldsList steps v t ws
-  some_left {x} y h = go all y.runs
+  next_part : {x : A} → steps s (Some x) t → (ws : List (List ℕ)) × YieldsList steps v t ws × Reads list (v x ∷ ws) all
+  next_part {x} h = go rest y.runs r
     where
-      go : (ws : List B) → AlwaysYields steps v s ws → (us : List B) × (ws ≡ v x ∷ us) × YieldsList steps v t us
-      go [] r = absurd (r x t h)
-      go (w ∷ ws) r = (ws, ap (λ z. z ∷ ws) (sym (r.1 x t h).0), record { runs = (r.1 x t h).1 })
+      go : (ws : List (List ℕ)) → AlwaysYields steps v s ws → Reads list ws all → (us : List (List ℕ)) × YieldsList steps v t us × Reads list (v x ∷ us) all
+      go [] a q = absurd (a x t h)
+      go (w ∷ ws) a q = (ws, record { runs = (a.1 x t h).1 }, subst (λ (u : List ℕ). Reads list (u ∷ ws) all) (sym (a.1 x t h).0) q)
 
--- what is left behind the next part
-pub turn : {S A : Type 0} {steps : S → Option A → S → Type 0} {v : A → List ℕ} {s t : S} {rest : List (List ℕ)} {x : A} {list : List ℕ} {all : Option (List ℕ)} → YieldsList steps v s rest → Reads list rest all → steps s (Some x) t
-    → (ws : List (List ℕ)) × YieldsList steps v t ws × Reads list (v x ∷ ws) all
-turn {list = list} {all = all} y r h = let l = some_left y h in (l.0, l.2, subst (λ (ws : List (List ℕ)). Reads list ws all) l.1 r)
+  -- the next part is a clause, and is read
+  pub part_some : {x : A} → steps s (Some x) t → IsSome (hex_four (v x))
+  part_some h = reads_some (next_part h).2
+
+  pub part_more : {x : A} (c : ℕ) → hex_four (v x) ≡ Some c → steps s (Some x) t → (ws : List (List ℕ)) × YieldsList steps v t ws × Reads (list ++ c ∷ []) ws all
+  part_more c e h = let n = next_part h in (n.0, n.1, reads_more c e n.2)
 
 pub on_ok : {T E P : Type 0} (r : Result T E) → true ≡ is_ok r → OnOk r P → P
 on_ok (Ok x) e p = p

@@ -8,7 +8,7 @@ use Rattle.answer.specs.declared.Refusal.TheVariants.{LongList}
 use Rattle.words.specs.Parted.{parted}
 use Rattle.words.specs.Clauses.{hex_all}
 use Rattle.words.proofs.Parts.{parted_is}
-use Rattle.words.proofs.Reading.{Reads, reads_none, reads_some, reads_more, reads_done, reads_long, none_left, turn, on_ok, on_err}
+use Rattle.words.proofs.Reading.{Reads, reads_none, reads_long, all_read, part_some, part_more, on_ok, on_err}
 use Rattle.words.proofs.clauses.ClausesWord.read.Goals as goal
 
 pub loop-part-init : goal.loop-part-init
@@ -30,28 +30,26 @@ loop-part-init c =
 pub unwrap-clause-requires : goal.unwrap-clause-requires
 unwrap-clause-requires c =
     let v = c.loop-part.invariant.2 in
-    let t = turn {t = c.next.new.self} {x = c.in-Some.part} v.1 v.2 c.in-Some.ensures.steps in
-    subst IsSome (sym c.hex_four.ensures) (reads_some t.2)
+    subst IsSome (sym c.hex_four.ensures) (part_some {t = c.next.new.self} v.1 v.2 {x = c.in-Some.part} c.in-Some.ensures.steps)
 
 pub returns : goal.returns
 returns c =
     let v = c.loop-part.invariant.2 in
-    let r = subst (λ (ws : List (List ℕ)). Reads c.loop-part.list.items ws (hex_all (parted 46 c.args.self.part.now))) (none_left v.1 c.in-None.ensures.steps) v.2 in
-    c.reduce.ensures.answer ∙ (ap (λ (cs : List ℕ). reduces cs) c.as_slice.ensures.value ∙ reads_done r)
+    c.reduce.ensures.answer ∙ (ap (λ (cs : List ℕ). reduces cs) c.as_slice.ensures.value ∙ all_read {t = c.next.new.self} v.1 v.2 c.in-None.ensures.steps)
 
 pub loop-part-preserved : goal.loop-part-preserved
 loop-part-preserved c =
     let v = c.loop-part.invariant.2 in
-    let t = turn {t = c.next.new.self} {x = c.in-Some.part} v.1 v.2 c.in-Some.ensures.steps in
-    let r = reads_more c.unwrap-clause.result (sym c.hex_four.ensures ∙ c.unwrap-clause.ensures) t.2 in
+    let is = sym c.hex_four.ensures ∙ c.unwrap-clause.ensures in
+    let p = part_more {t = c.next.new.self} v.1 v.2 {x = c.in-Some.part} c.unwrap-clause.result is c.in-Some.ensures.steps in
     let pushed = on_ok c.try_push.result c.in_ok-map_err.ensures.variant c.try_push.ensures.ok in
-    (search of_calls, tt, (t.0, t.1, subst (λ (cs : List ℕ). Reads cs t.0 (hex_all (parted 46 c.args.self.part.now))) (sym pushed) r))
+    (search of_calls, tt, (p.0, p.1, subst (λ (cs : List ℕ). Reads cs p.0 (hex_all (parted 46 c.args.self.part.now))) (sym pushed) p.2))
 
 pub returns-in_err-map_err : goal.returns-in_err-map_err
 returns-in_err-map_err c =
     let v = c.loop-part.invariant.2 in
-    let t = turn {t = c.next.new.self} {x = c.in-Some.part} v.1 v.2 c.in-Some.ensures.steps in
-    let r = reads_more c.unwrap-clause.result (sym c.hex_four.ensures ∙ c.unwrap-clause.ensures) t.2 in
+    let is = sym c.hex_four.ensures ∙ c.unwrap-clause.ensures in
+    let p = part_more {t = c.next.new.self} v.1 v.2 {x = c.in-Some.part} c.unwrap-clause.result is c.in-Some.ensures.steps in
     let full = on_err c.try_push.result c.in_err-map_err.ensures.variant c.try_push.ensures.full in
     let e : c.from_residual.result ≡ Err LongList = search rules in
-    rw e (reads_long (omega (arith, length-append {A = ℕ}, full)) r)
+    rw e (reads_long (omega (arith, length-append {A = ℕ}, full)) p.2)
