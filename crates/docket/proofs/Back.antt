@@ -4,8 +4,9 @@ use Rattle.std.proofs.lemmas.List.{append_assoc, length-take-le}
 use Rattle.std.proofs.lemmas.Bool.{eq-eqb, eqb-true, eqb-false, leb-true, lt-ltb, and_from, cond-true, cond-false}
 use Rattle.answer.specs.Told.{Told, granted, refused}
 use Rattle.formula.specs.Keeping.{kept}
+use Rattle.label.specs.Kinds.{kind_bit}
 use Rattle.docket.specs.Bits.{bits, number}
-use Rattle.docket.specs.Entries.{Plain, kind_bit, asked, brings, carries_answer, words, answer_bits, formula_bits, pad_size, entry_bits}
+use Rattle.docket.specs.Entries.{Plain, asked, brings, carries_answer, words, answer_bits, formula_bits, pad_size, entry_bits}
 use Rattle.docket.specs.Reading.{Reading, field, lawful, words_at, question_at, answer_at, formula_at, pad_at, kind_of, made, new_at, told_at, record_at, task_at, entry_at}
 use Rattle.docket.specs.Laws.{Sets, values_of, Carried}
 use Rattle.docket.proofs.Numbers.{Bits, Bits-take, Bits-drop, bits_number, number_small}

@@ -7,13 +7,13 @@ use Rattle.answer.specs.Told.{Told, granted, refused}
 use Rattle.formula.specs.Keeping.{kept, ordered}
 use Rattle.label.specs.declared.kind.Kind.{Kind}
 use Rattle.label.specs.declared.kind.Kind.TheVariants.{Release, Endorse}
+use Rattle.label.specs.Kinds.{kind_bit}
 use Rattle.docket.specs.Bits.{bits, number}
-use Rattle.docket.specs.Entries.{Plain, kind_bit, asked, brings, carries_answer, words, answer_bits, formula_bits, pad_size, entry_bits}
+use Rattle.docket.specs.Entries.{Plain, asked, brings, carries_answer, words, answer_bits, formula_bits, pad_size, entry_bits}
 use Rattle.docket.specs.Reading.{Reading, field, lawful, words_at, question_at, answer_at, formula_at, pad_at, kind_of, made, new_at, told_at, record_at, task_at, entry_at}
 use Rattle.docket.specs.Laws.{Sets, values_of, Carried}
 use Rattle.docket.proofs.Rows.{length_bits}
 use Rattle.docket.proofs.Numbers.{number_bits}
-use Rattle.docket.proofs.Steps.{lawful_yes}
 
 pub field_here : (w v : ℕ) (rest : List ℕ) (next : ℕ → List ℕ → Reading) → v < 2 ^ w → field w (bits w v ++ rest) next ≡ next v rest
 field_here w v rest next h =
@@ -23,7 +23,7 @@ field_here w v rest next h =
     let n : number (take w (bits w v ++ rest)) ≡ v = ap number (take_at (bits w v) rest w l) ∙ number_bits w v h in
     cond-true _ _ _ t ∙ (ap (λ (k : ℕ). next k (drop w (bits w v ++ rest))) n ∙ ap (next v) (drop_at (bits w v) rest w l))
 
-words_here : (vs rest : List ℕ) (next : List ℕ → List ℕ → Reading) → Sets vs → words_at (length vs) (words vs ++ rest) next ≡ next vs rest
+pub words_here : (vs rest : List ℕ) (next : List ℕ → List ℕ → Reading) → Sets vs → words_at (length vs) (words vs ++ rest) next ≡ next vs rest
 words_here [] rest next s = refl
 words_here (v ∷ vs) rest next s =
     field_here 16 v (words vs ++ rest) (λ v V. words_at (length vs) V (λ vs W. next (v ∷ vs) W)) s.0
@@ -39,7 +39,7 @@ asked_small q p =
       ]
     ]
 
-answer_here : (a : Told) (rest : List ℕ) (next : Told → List ℕ → Reading) → carries_answer a ≡ true → Sets (values_of a)
+pub answer_here : (a : Told) (rest : List ℕ) (next : Told → List ℕ → Reading) → carries_answer a ≡ true → Sets (values_of a)
     → answer_at (answer_bits a ++ rest) next ≡ next a rest
 answer_here (granted []) rest next c s = field_here 1 1 rest (λ b V. cond (eqb b 1) (next (granted []) V) (question_at V next)) (omega arith)
 answer_here (granted (v ∷ vs)) rest next c s = absurd (omega (arith, eqb-true (length (v ∷ vs)) 0 c))
@@ -48,17 +48,17 @@ answer_here (refused q vs) rest next c s =
     let n : length vs ≡ brings q = eqb-true (length vs) (brings q) h.1 in
     field_here 1 0 (bits 5 q ++ (words vs ++ rest)) (λ b V. cond (eqb b 1) (next (granted []) V) (question_at V next)) (omega arith)
     ∙ (field_here 5 q (words vs ++ rest) (λ q V. lawful (asked q) (words_at (brings q) V (λ vs W. next (refused q vs) W))) (asked_small q h.0)
-    ∙ (lawful_yes _ _ h.0
+    ∙ (cond-true _ _ _ h.0
     ∙ (ap (λ (k : ℕ). words_at k (words vs ++ rest) (λ vs W. next (refused q vs) W)) (sym n) ∙ words_here vs rest (λ vs W. next (refused q vs) W) s)))
 
 pub kept_small : (cs : List ℕ) → kept cs ≡ true → length cs ≤ 8
 kept_small cs k = leb-true (length cs) 8 (and_parts (leb (length cs) 8) (ordered cs) k).0
 
-formula_here : (cs rest : List ℕ) (next : List ℕ → List ℕ → Reading) → kept cs ≡ true → Sets cs → formula_at (formula_bits cs ++ rest) next ≡ next cs rest
+pub formula_here : (cs rest : List ℕ) (next : List ℕ → List ℕ → Reading) → kept cs ≡ true → Sets cs → formula_at (formula_bits cs ++ rest) next ≡ next cs rest
 formula_here cs rest next k s =
     let n = kept_small cs k in
     field_here 4 (length cs) (words cs ++ rest) (λ n V. lawful (leb n 8) (words_at n V (λ cs W. lawful (kept cs) (next cs W)))) (omega arith)
-    ∙ (lawful_yes _ _ (le-leb (length cs) 8 n) ∙ (words_here cs rest (λ cs W. lawful (kept cs) (next cs W)) s ∙ lawful_yes _ _ k))
+    ∙ (cond-true _ _ _ (le-leb (length cs) 8 n) ∙ (words_here cs rest (λ cs W. lawful (kept cs) (next cs W)) s ∙ cond-true _ _ _ k))
 
 kind_small : (a : Kind) → kind_bit a < 2
 kind_small Release = omega arith

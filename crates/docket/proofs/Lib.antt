@@ -1,16 +1,12 @@
 mod Rows
+mod Held
 mod Numbers
-mod Fetching
-mod Steps
-mod Splitting
-mod Entering
 mod Placing
 mod Forth
 mod Back
+mod Taking
 pub mod Packing
 mod Whole
 mod Settles
 mod Filing
 mod Laws
-mod Drawing
-mod Telling

@@ -1,9 +1,9 @@
 -- Bits and the bytes that they fill.
-use Rattle.std.proofs.Common.{◌≡◌, ℕ, zero, suc, ◌+◌, ◌*◌, ◌≤◌, List, [], ◌∷◌, ◌++◌, length, take, drop, sym, refl, ap, ◌∙◌, subst, arith, length-append, length-drop, take-append-drop}
+use Rattle.std.proofs.Common.{◌≡◌, ℕ, zero, suc, ◌+◌, ◌*◌, ◌≤◌, Bool, true, false, cond, eqb, List, [], ◌∷◌, ◌++◌, length, take, drop, sym, refl, ap, ◌∙◌, subst, arith, length-append, length-drop, take-append-drop}
 use Rattle.std.proofs.lemmas.List.{length-take-le, take_at, nil_from_length, append_assoc}
 use Rattle.answer.specs.Told.{Told, granted, refused}
 use Rattle.docket.specs.Bits.{bits, unpack, number, packed}
-use Rattle.docket.specs.Entries.{Plain, words, answer_bits, answer_size, formula_bits, pad_size, head_size, entry_bits, size_of, entry_bytes}
+use Rattle.docket.specs.Entries.{Plain, brings, words, answer_bits, answer_size, formula_bits, pad_size, head_size, entry_bits, size_of, entry_bytes}
 use Rattle.docket.specs.Laws.{Bytes}
 use Rattle.docket.proofs.Rows.{length_bits}
 use Rattle.docket.proofs.Numbers.{Bits, Bits-take, Bits-drop, Bits-append, bits_bits, bits_number, number_bits}
@@ -93,3 +93,10 @@ length_entry e = length_packed (size_of e) (entry_bits e)
 pub head_positive : (a : Told) → 2 ≤ head_size a
 head_positive (granted vs) = omega arith
 head_positive (refused q vs) = omega arith
+
+pub brings_one : (q : ℕ) → brings q ≤ 1
+brings_one q = go (eqb q 16)
+  where
+    go : (b : Bool) → cond b 1 0 ≤ 1
+    go true = omega arith
+    go false = omega arith

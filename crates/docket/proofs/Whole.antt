@@ -1,5 +1,5 @@
 -- Entries at their places, and whole dockets.
-use Rattle.std.proofs.Common.{◌≡◌, ℕ, ◌+◌, ◌*◌, ◌<◌, ◌≤◌, Bool, true, false, cond, ◌&&◌, eqb, ltb, List, [], ◌∷◌, ◌++◌, length, take, drop, Ok, Err, sym, refl, ap, ◌∙◌, subst, arith, length-append, length-drop, take-append-drop}
+use Rattle.std.proofs.Common.{◌≡◌, ℕ, ◌+◌, ◌*◌, ◌<◌, ◌≤◌, Bool, true, false, ◌&&◌, eqb, ltb, List, [], ◌∷◌, ◌++◌, length, take, drop, Ok, Err, sym, refl, ap, ◌∙◌, subst, arith, length-append, length-drop, take-append-drop}
 use Rattle.std.proofs.ByRecursion.{All-take, All-drop}
 use Rattle.std.proofs.lemmas.List.{append_assoc, append-nil, take_at, drop_at, drop-drop, drop_all, length-take-le}
 use Rattle.std.proofs.lemmas.Bool.{eqb-true, cond-true, cond-false, and_parts}
@@ -12,22 +12,15 @@ use Rattle.docket.proofs.Rows.{length_unpack, unpack_append}
 use Rattle.docket.proofs.Numbers.{Bits-unpack}
 use Rattle.docket.proofs.Forth.{reads_back_bits, kept_small}
 use Rattle.docket.proofs.Back.{was_written}
-use Rattle.docket.proofs.Packing.{packed_is, length_entry_bits, unpack_entry, length_entry, head_positive}
+use Rattle.docket.proofs.Packing.{packed_is, length_entry_bits, unpack_entry, length_entry, head_positive, brings_one}
 use Rattle.docket.proofs.Placing.{at_end, at_entry}
-
-brings_one : (q : ℕ) → brings q ≤ 1
-brings_one q = go (eqb q 16)
-  where
-    go : (b : Bool) → cond b 1 0 ≤ 1
-    go true = omega arith
-    go false = omega arith
 
 head_small : (a : Told) → carries_answer a ≡ true → head_size a ≤ 5
 head_small (granted vs) c = omega arith
 head_small (refused q vs) c =
     omega (arith, eqb-true (length vs) (brings q) (and_parts (asked q) (eqb (length vs) (brings q)) c).1, brings_one q)
 
-longest : (e : Plain) → Carried e → size_of e ≤ 21
+pub longest : (e : Plain) → Carried e → size_of e ≤ 21
 longest e h =
     let f = and_parts (ltb e.task 8) (ltb e.«record» 64 && carries_answer e.answer) h.fields in
     let g = and_parts (ltb e.«record» 64) (carries_answer e.answer) f.1 in

@@ -3,7 +3,7 @@ use Rattle.std.specs.Prelude.{ℕ, ◌+◌, ◌*◌, Bool, cond, ◌&&◌, ◌||
 use Rattle.answer.specs.Told.{Told, granted, refused, says, nothing}
 use Rattle.formula.specs.Of.{clauses_of}
 use Rattle.label.specs.declared.kind.Kind.{Kind}
-use Rattle.label.specs.declared.kind.Kind.TheVariants.{Release, Endorse}
+use Rattle.label.specs.Kinds.{kind_bit}
 use Rattle.docket.specs.declared.entry.Entry.{Entry}
 use Rattle.docket.specs.Bits.{bits, packed}
 
@@ -19,10 +19,6 @@ pub record Plain : Type 0 where
 abbrev pub plain_of : Entry → Plain
 plain_of e =
     record { kind = e.kind; task = e.task; «record» = e.«record»; answer = says nothing e.answer; new = clauses_of e.new }
-
-abbrev pub kind_bit : Kind → ℕ
-kind_bit Release = 0
-kind_bit Endorse = 1
 
 -- the questions that a release or an endorsement of a known task and record can be refused by
 abbrev pub asked : ℕ → Bool

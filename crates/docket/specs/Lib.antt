@@ -3,5 +3,4 @@ pub mod Entries
 pub mod Reading
 pub mod Writing
 pub mod Laws
-pub mod Fetch
-pub mod Drawing
+pub mod Text

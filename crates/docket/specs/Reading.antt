@@ -1,6 +1,6 @@
 -- What a row of bits is read as, field by field: at each first question 19, are all bits present, and
 -- then 20, is the content lawful.
-use Rattle.std.specs.Prelude.{◌≡◌, ℕ, zero, suc, ◌+◌, ◌*◌, ◌^◌, ◌<◌, Bool, true, false, cond, List, [], ◌∷◌, length, take, drop, Some, None, Ok, Err, Option, Result, ◌==◌, ◌≢◌, nat_le, nat_lt}
+use Rattle.std.specs.Prelude.{ℕ, zero, suc, ◌+◌, Bool, cond, List, [], ◌∷◌, length, take, drop, Some, None, Ok, Err, Option, Result, ◌==◌, nat_le, nat_lt}
 use Rattle.answer.specs.declared.Refusal.{Refusal}
 use Rattle.answer.specs.declared.Answer.TheVariants.{Refused}
 use Rattle.answer.specs.Told.{Told, granted, refused, told, question_of}
@@ -8,8 +8,7 @@ use Rattle.formula.specs.Keeping.{kept}
 use Rattle.label.specs.declared.kind.Kind.{Kind}
 use Rattle.label.specs.declared.kind.Kind.TheVariants.{Release, Endorse}
 use Rattle.docket.specs.declared.entry.Entry.{Entry}
-use Rattle.docket.specs.declared.entry.Read.{Read}
-use Rattle.docket.specs.declared.entry.Read.TheVariants.{Found, Over, Refused as Unread}
+use Rattle.docket.specs.declared.entry.Found.{Found}
 use Rattle.docket.specs.Bits.{unpack, number}
 use Rattle.docket.specs.Entries.{Plain, plain_of, asked, brings, pad_size, size_of}
 
@@ -89,33 +88,11 @@ read_at bytes place =
 abbrev pub number_of : Refusal → ℕ
 number_of q = question_of (told (Refused q))
 
-abbrev pub standing : Read → Standing
-standing (Found e next) = entry (plain_of e) next
-standing Over = over
-standing (Unread q) = refusal (number_of q)
+abbrev pub standing : Result (Option Found) Refusal → Standing
+standing (Ok (Some f)) = entry (plain_of f.entry) f.next
+standing (Ok None) = over
+standing (Err q) = refusal (number_of q)
 
 abbrev pub reading : Result Entry Refusal → Reading
 reading (Ok e) = Ok (plain_of e)
 reading (Err q) = Err (number_of q)
-
--- what a function that reads one part of an entry from a place on promises, whatever is read next: the
--- part, which takes `size` bits, or the question that refuses it
-abbrev pub Part : {A B : Type 0} → (List ℕ → (A → List ℕ → Reading) → Reading) → (B → A) → (A → ℕ) → List ℕ → ℕ → Result B Refusal → Type 0
-Part {A} part value size U at (Ok x) = (next : A → List ℕ → Reading) → part (drop at U) next ≡ next (value x) (drop (at + size (value x)) U)
-Part {A} part value size U at (Err q) = (next : A → List ℕ → Reading) → part (drop at U) next ≡ Err (number_of q)
-
--- the refusal at a question that brings no group
-abbrev pub Alone : ℕ → Option Refusal → Type 0
-Alone question (Some q) = (told (Refused q) ≡ refused question []) × (asked question ≡ true)
-Alone question None = (question ≢ 16) → asked question ≡ false
-
--- a number that was read has at most w bits
-abbrev pub Small : ℕ → Result ℕ Refusal → Type 0
-Small w (Ok v) = v < 2 ^ w
-Small w (Err q) = Unit {0}
-
-abbrev pub itself : ℕ → ℕ
-itself n = n
-
-abbrev pub formula_size : List ℕ → ℕ
-formula_size cs = 4 + 16 * length cs

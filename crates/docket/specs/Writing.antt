@@ -13,6 +13,10 @@ next_place n = n ∷ []
 abbrev pub room_for : Plain → ℕ → List ℕ → Bool
 room_for e place bytes = nat_le (place + size_of e) (length bytes)
 
+-- question 18, and then the entry's bytes
+abbrev pub packing : Plain → Told
+packing e = cond (carries e) (granted (entry_bytes e)) (refused 18 [])
+
 -- questions 18 and 17, and then the next place
 abbrev pub writing : Plain → ℕ → List ℕ → Told
 writing e place bytes =

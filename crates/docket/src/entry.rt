@@ -13,12 +13,9 @@ pub struct Entry {
     pub new: Formula,
 }
 
-/// What stands at a place of the docket.
+/// An entry that was found, and the place of the next.
 #[derive(Clone, Copy)]
-pub enum Read {
-    /// An entry, and the place of the next.
-    Found(Entry, u64),
-    /// The docket ends here.
-    Over,
-    Refused(Refusal),
+pub struct Found {
+    pub entry: Entry,
+    pub next: u64,
 }

@@ -1,14 +1,14 @@
 //! The docket: a log of releases and endorsements, packed bit by bit.
 #![tactic(auto)]
 
+mod bits_left;
+mod bits_packed;
 mod entry;
-mod field;
 mod part;
-mod pen;
 mod read;
-mod size;
+mod text;
 mod write;
 
-pub use entry::{Entry, Read};
+pub use entry::{Entry, Found};
 pub use read::read_entry;
-pub use write::write_entry;
+pub use write::{entry_bytes, write_entry};

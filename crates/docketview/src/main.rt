@@ -2,11 +2,8 @@
 //! the new formula. Where the bytes are damaged it says where and by which question, and stops.
 #![tactic(auto)]
 
-use answer::Answer;
 use anyhow::anyhow;
-use docket::{Entry, Read, read_entry};
-use formula::Formula;
-use label::Kind;
+use docket::{Found, read_entry};
 use std::io::Write;
 use std::{env, fs};
 
@@ -19,59 +16,23 @@ const HELP: &str = "docketview prints docket files, one entry a line:
 Where the bytes are damaged it prints PLACE damaged QUESTION, stops, and ends with status 1.
 ";
 
-/// Adds a formula as on paper: its clauses joined by full stops, or T.
-fn add_formula(text: &mut Vec<u8>, formula: Formula) -> anyhow::Result<()> {
-    let clauses = formula.as_slice();
-    if clauses.is_empty() {
-        text.push(b'T')?;
-    }
-    let mut first = true;
-    for &clause in clauses {
-        if !first {
-            text.push(b'.')?;
-        }
-        first = false;
-        write!(text, "{clause:04x}")?;
-    }
-    Ok(())
-}
-
-fn kind_name(kind: Kind) -> &'static str {
-    match kind {
-        Kind::Release => "release",
-        Kind::Endorse => "endorse",
-    }
-}
-
-fn add_entry(text: &mut Vec<u8>, place: u64, entry: Entry) -> anyhow::Result<()> {
-    let kind = kind_name(entry.kind);
-    let task = entry.task;
-    let record = entry.record;
-    let answer = Answer::from(entry.answer);
-    write!(text, "{place} {kind} {task} {record} {answer} ")?;
-    add_formula(text, entry.new)?;
-    text.push(b'\n')?;
-    Ok(())
-}
-
 /// Adds each entry of the docket, and answers whether it could be read to its end.
 fn add_docket(text: &mut Vec<u8>, bytes: &[u8]) -> anyhow::Result<bool> {
     let mut place = 0;
-    for _ in 0..u64::MAX {
+    loop {
         match read_entry(bytes, place) {
-            Read::Found(entry, next) => {
-                add_entry(text, place, entry)?;
+            Ok(Some(Found { entry, next })) => {
+                writeln!(text, "{place} {entry}")?;
                 place = next;
             }
-            Read::Over => return Ok(true),
-            Read::Refused(refusal) => {
+            Ok(None) => return Ok(true),
+            Err(refusal) => {
                 let question = refusal.number();
                 writeln!(text, "{place} damaged {question}")?;
                 return Ok(false);
             }
         }
     }
-    Ok(false)
 }
 
 fn show_file(rt: &HostRuntime, name: &str) -> anyhow::Result<()> {
@@ -87,17 +48,16 @@ fn show_file(rt: &HostRuntime, name: &str) -> anyhow::Result<()> {
 }
 
 fn start(rt: &HostRuntime) -> anyhow::Result<()> {
-    let mut shown = 0u64;
-    for name in env::args(rt)?.skip(1) {
+    let mut names = env::args(rt)?.skip(1).peekable();
+    if names.peek().is_none() {
+        return Err(anyhow!("docketview wants the name of a docket file"));
+    }
+    for name in names {
         if name.as_str() == "--help" {
             print!(rt; "{HELP}")?;
             return Ok(());
         }
         show_file(rt, name.as_str())?;
-        shown = shown.saturating_add(1);
-    }
-    if shown == 0 {
-        return Err(anyhow!("docketview wants the name of a docket file"));
     }
     Ok(())
 }

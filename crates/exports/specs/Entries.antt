@@ -1,7 +1,8 @@
 -- What the docket's reader gives to C.
 use Rattle.std.specs.Prelude.{ℕ, List, ◌++◌, length, drop, replicate, Some, None, Option}
 use Rattle.answer.specs.Told.{Told, question_of, group_of}
-use Rattle.docket.specs.Entries.{Plain, kind_bit}
+use Rattle.label.specs.Kinds.{kind_bit}
+use Rattle.docket.specs.Entries.{Plain}
 use Rattle.docket.specs.Reading.{Standing, entry, over, refusal}
 use Rattle.exports.specs.declared.entry.YardEntry.{YardEntry}
 

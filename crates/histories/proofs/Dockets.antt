@@ -1,8 +1,8 @@
 -- The rows of the docket hold.
-use Rattle.std.proofs.Common.{ℕ, ◌<◌, List, [], ◌∷◌, length, get_or, Ok, Err, refl, ap, true≢false, arith, lit<, lit≤}
+use Rattle.std.proofs.Common.{ℕ, ◌<◌, List, [], ◌∷◌, get_or, refl, ap, arith, lit<, lit≤}
 use mathlib.Core.Bool.{false≢true}
-use Rattle.answer.specs.Told.{question_of}
-use Rattle.docket.specs.Reading.{Reading, Standing, entry, over, refusal}
+use Rattle.std.specs.Fmt.{digits}
+use Rattle.docket.specs.Reading.{Standing, entry, over, refusal}
 use Rattle.docket.specs.Laws.{Bytes, Carried, Stood}
 use Rattle.histories.specs.Dockets.{granting, steered, five, Written, Readings, Whole, Dockets}
 use Rattle.histories.proofs.Apart.{differ}
@@ -18,10 +18,6 @@ standing_is (entry e next) = 0
 standing_is over = 1
 standing_is (refusal q) = 2
 
-abbrev error_in : Reading → ℕ
-error_in (Ok e) = 0
-error_in (Err q) = q
-
 carried : Carried granting
 carried = record { fields = refl; form = refl; groups = tt; clauses = (lit< tt, tt) }
 
@@ -32,6 +28,7 @@ stood : Stood (9 ∷ 33 ∷ 98 ∷ 0 ∷ 6 ∷ 7 ∷ []) 1 granting 5
 stood = record { carried = carried; ends = refl; inside = lit≤ tt; same = refl }
 
 written : Written
+unfolding digits
 written =
     record {
       entry_bytes_row = refl;
@@ -53,7 +50,13 @@ written =
       granted_bits = refl;
       refused_bits = refl;
       formula_bits_row = refl;
-      formula_size_row = refl;
+      packs = refl;
+      packs_none = refl;
+      printed = refl;
+      release_bit = refl;
+      endorse_bit = refl;
+      release_text = refl;
+      endorse_text = refl;
       writes = refl;
       no_room = refl;
       not_carried = refl;
@@ -65,13 +68,6 @@ written =
       reads_back = refl;
       reads_otherwise = λ e. differ {m = 4} {n = 5} refl (ap place_in e);
       refused_reads = tt;
-      three_bytes = refl;
-      one_byte = refl;
-      reached = refl;
-      drawn_so_far = refl;
-      drew = record { line = refl; moved = refl };
-      drew_other = λ d. differ {m = 1} {n = 0} refl (ap (λ (bs : List ℕ). get_or bs 11 0) d.line);
-      drew_elsewhere = λ d. differ {m = 4} {n = 12} refl d.moved;
     }
 
 readings : Readings
@@ -79,7 +75,7 @@ readings =
     record {
       readings = refl;
       question_number = refl;
-      found = λ e. refl;
+      found = λ f. refl;
       found_over = refl;
       unread = refl;
       reading_entry = λ e. refl;
@@ -89,19 +85,6 @@ readings =
       plain_record = λ e. refl;
       plain_answer = λ e. refl;
       plain_new = λ e. refl;
-      part = λ next. refl;
-      part_other = λ p. differ {m = 7} {n = 8} refl (ap error_in (p (λ n V. Err n)));
-      part_short = λ p. differ {m = 1} {n = 2} refl (ap error_in (p (λ n V. Err (length V))));
-      part_refused = λ next. refl;
-      part_refused_otherwise = λ p. differ {m = 19} {n = 20} refl (ap error_in (p (λ n V. Err 0)));
-      alone = (refl, refl);
-      other_question = λ a. differ {m = 6} {n = 5} refl (ap question_of a.0);
-      not_asked = λ a. false≢true a.1;
-      none_alone = λ n. refl;
-      group_comes = λ n. absurd (n refl);
-      some_alone = λ a. true≢false (a (differ {m = 5} {n = 16} refl));
-      small = lit< tt;
-      not_small = λ h. let z : 8 < 8 = h in omega arith;
     }
 
 whole : Whole

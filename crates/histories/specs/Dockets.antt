@@ -1,22 +1,20 @@
 -- The docket: entries as bytes, bytes as entries, and whole dockets.
-use Rattle.std.specs.Prelude.{◌≡◌, ℕ, ◌≤◌, Bool, true, false, List, [], ◌∷◌, ◌++◌, map, length, take, drop, Some, None, Ok, Err, ◌≢◌}
-use Rattle.std.proofs.Common.{lit<}
+use Rattle.std.specs.Prelude.{◌≡◌, ℕ, ◌≤◌, Bool, true, false, List, [], ◌∷◌, ◌++◌, map, length, take, Some, None, Ok, Err, ◌≢◌, codes}
 use Rattle.std.specs.List.{AllByRecursion}
 use Rattle.answer.specs.declared.Denial.TheVariants.{NotCovered}
-use Rattle.answer.specs.declared.Refusal.TheVariants.{TaskState, RecordState, NoFlow, Denied, Missing, Unlawful}
+use Rattle.answer.specs.declared.Refusal.TheVariants.{Denied, Missing, Unlawful}
 use Rattle.answer.specs.Told.{Told, granted, refused, says, nothing}
 use Rattle.formula.specs.Of.{clauses_of}
 use Rattle.label.specs.declared.kind.Kind.{Kind}
 use Rattle.label.specs.declared.kind.Kind.TheVariants.{Release, Endorse}
-use Rattle.docket.specs.declared.pen.Pen.{Pen}
 use Rattle.docket.specs.declared.entry.Entry.{Entry}
-use Rattle.docket.specs.declared.entry.Read.TheVariants.{Found, Over, Refused as Unread}
+use Rattle.docket.specs.declared.entry.Found.{Found}
+use Rattle.label.specs.Kinds.{kind_bit, kind_text}
+use Rattle.docket.specs.Text.{entry_text}
 use Rattle.docket.specs.Bits.{bits, unpack, number, packed}
-use Rattle.docket.specs.Drawing.{reach, drawn, Drew}
-use Rattle.docket.specs.Fetch.{three}
 use Rattle.docket.specs.Entries.{Plain, plain_of, carries_answer, carries, words, answer_bits, answer_size, formula_bits, entry_bits, size_of, entry_bytes}
-use Rattle.docket.specs.Reading.{Reading, Standing, entry, over, refusal, read_at, number_of, standing, reading, Part, Alone, Small, itself, formula_size}
-use Rattle.docket.specs.Writing.{room_for, writing, written, ReadsBack}
+use Rattle.docket.specs.Reading.{Standing, entry, over, refusal, read_at, number_of, standing, reading}
+use Rattle.docket.specs.Writing.{room_for, packing, writing, written, ReadsBack}
 use Rattle.docket.specs.Laws.{Bytes, Sets, values_of, Carried, Stood, docket_bytes, ReadsOn, written_all, docket_size, DocketLaws, WasWritten}
 
 -- kind, task, record, answer and the new formula
@@ -91,16 +89,6 @@ answers =
 abbrev pub five : List ℕ
 five = 9 ∷ 9 ∷ 9 ∷ 9 ∷ 9 ∷ []
 
--- one byte is written, and three bits wait; then four; and a pen at the start with four
-abbrev pub pen : Pen
-pen = record { place = 1; held = 5; count = 3; few = lit< tt; low = lit< tt }
-
-abbrev pub later : Pen
-later = record { place = 1; held = 11; count = 4; few = lit< tt; low = lit< tt }
-
-abbrev pub early : Pen
-early = record { place = 0; held = 11; count = 4; few = lit< tt; low = lit< tt }
-
 pub record Written : Type 0 where
   pub entry_bytes_row : map (λ row. entry_bytes row.0) entries ≡ map (λ row. row.1) entries
   pub sizes : map (λ row. size_of row.0) entries ≡ 4 ∷ 5 ∷ 7 ∷ []
@@ -122,7 +110,15 @@ pub record Written : Type 0 where
   pub granted_bits : length (answer_bits (granted [])) ≡ 1
   pub refused_bits : answer_bits (refused 12 []) ≡ 0 ∷ 0 ∷ 1 ∷ 1 ∷ 0 ∷ 0 ∷ []
   pub formula_bits_row : take 4 (formula_bits (1 ∷ 2 ∷ [])) ≡ 0 ∷ 0 ∷ 1 ∷ 0 ∷ []
-  pub formula_size_row : formula_size (1 ∷ 2 ∷ []) ≡ 36
+  -- the entry's bytes, or that it cannot be carried
+  pub packs : packing granting ≡ granted (33 ∷ 98 ∷ 0 ∷ 6 ∷ [])
+  pub packs_none : packing (plain Release 8 0 (granted []) []) ≡ refused 18 []
+  -- what is printed of an entry, and the bit of a kind
+  pub printed : map (λ row. entry_text row.0) entries ≡ codes "release 2 5 ok 0003" ∷ codes "release 0 0 16 0001 T" ∷ codes "endorse 7 63 12 0002.0101" ∷ []
+  pub release_bit : kind_bit Release ≡ 0
+  pub endorse_bit : kind_bit Endorse ≡ 1
+  pub release_text : kind_text Release ≡ codes "release"
+  pub endorse_text : kind_text Endorse ≡ codes "endorse"
   -- the writer's answer and its bytes
   pub writes : writing granting 1 five ≡ granted (5 ∷ [])
   pub no_room : writing granting 2 five ≡ refused 17 []
@@ -135,29 +131,13 @@ pub record Written : Type 0 where
   pub reads_back : ReadsBack granting 0 (33 ∷ 98 ∷ 0 ∷ 6 ∷ []) (Ok 4)
   pub reads_otherwise : ReadsBack granting 0 (33 ∷ 98 ∷ 0 ∷ 6 ∷ []) (Ok 5) → ⊥
   pub refused_reads : ReadsBack granting 0 [] (Err Missing)
-  -- three bytes as a number
-  pub three_bytes : three (1 ∷ 2 ∷ 3 ∷ 4 ∷ []) 1 ≡ 131844
-  pub one_byte : three (1 ∷ []) 0 ≡ 65536
-  -- the pen
-  pub reached : reach pen ≡ 11
-  pub drawn_so_far : drawn (9 ∷ 7 ∷ []) pen ≡ 0 ∷ 0 ∷ 0 ∷ 0 ∷ 1 ∷ 0 ∷ 0 ∷ 1 ∷ 1 ∷ 0 ∷ 1 ∷ []
-  pub drew : Drew (9 ∷ []) pen (1 ∷ []) (9 ∷ []) later
-  pub drew_other : Drew (9 ∷ []) pen (0 ∷ []) (9 ∷ []) later → ⊥
-  pub drew_elsewhere : Drew [] pen (1 ∷ []) [] early → ⊥
-
--- a part that reads seven from three bits, and one that reads nothing
-abbrev pub seven : List ℕ → (ℕ → List ℕ → Reading) → Reading
-seven U next = next 7 (drop 3 U)
-
-abbrev pub missing : List ℕ → (ℕ → List ℕ → Reading) → Reading
-missing U next = Err 19
 
 pub record Readings : Type 0 where
   pub readings : map (λ row. read_at row.0.0 row.0.1) readings ≡ map (λ row. row.1) readings
   pub question_number : number_of (Denied NotCovered) ≡ 12
-  pub found : (e : Entry) → standing (Found e 4) ≡ entry (plain_of e) 4
-  pub found_over : standing Over ≡ over
-  pub unread : standing (Unread Missing) ≡ refusal 19
+  pub found : (f : Found) → standing (Ok (Some f)) ≡ entry (plain_of f.entry) f.next
+  pub found_over : standing (Ok None) ≡ over
+  pub unread : standing (Err Missing) ≡ refusal 19
   pub reading_entry : (e : Entry) → reading (Ok e) ≡ Ok (plain_of e)
   pub reading_none : reading (Err Unlawful) ≡ Err 20
   pub plain_kind : (e : Entry) → (plain_of e).kind ≡ e.kind
@@ -165,20 +145,6 @@ pub record Readings : Type 0 where
   pub plain_record : (e : Entry) → (plain_of e).«record» ≡ e.«record»
   pub plain_answer : (e : Entry) → (plain_of e).answer ≡ says nothing e.answer
   pub plain_new : (e : Entry) → (plain_of e).new ≡ clauses_of e.new
-  -- what a part promises
-  pub part : Part seven itself (λ n. 3) (1 ∷ 2 ∷ 3 ∷ 4 ∷ 5 ∷ []) 1 (Ok 7)
-  pub part_other : Part seven itself (λ n. 3) (1 ∷ 2 ∷ 3 ∷ 4 ∷ 5 ∷ []) 1 (Ok 8) → ⊥
-  pub part_short : Part seven itself (λ n. 2) (1 ∷ 2 ∷ 3 ∷ 4 ∷ 5 ∷ []) 1 (Ok 7) → ⊥
-  pub part_refused : Part {B = ℕ} missing itself (λ n. 3) [] 0 (Err Missing)
-  pub part_refused_otherwise : Part {B = ℕ} missing itself (λ n. 3) [] 0 (Err Unlawful) → ⊥
-  pub alone : Alone 5 (Some TaskState)
-  pub other_question : Alone 5 (Some RecordState) → ⊥
-  pub not_asked : Alone 9 (Some NoFlow) → ⊥
-  pub none_alone : Alone 7 None
-  pub group_comes : Alone 16 None
-  pub some_alone : Alone 5 None → ⊥
-  pub small : Small 3 (Ok 7)
-  pub not_small : Small 3 (Ok 8) → ⊥
 
 abbrev pub docket : List ℕ
 docket = 33 ∷ 98 ∷ 0 ∷ 6 ∷ 0 ∷ 16 ∷ 0 ∷ 1 ∷ 0 ∷ []

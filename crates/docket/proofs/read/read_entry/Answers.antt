@@ -1,41 +1,46 @@
-use Rattle.std.proofs.Common.{◌≡◌, ℕ, ◌+◌, ◌<◌, List, length, sym, ap, ◌∙◌, arith}
-use Rattle.std.specs.List.{between}
+use Rattle.std.proofs.Common.{◌≡◌, ℕ, ◌+◌, ◌-◌, ◌*◌, ◌/◌, ◌<◌, ◌≤◌, List, length, take, drop, Ok, sym, ap, ◌∙◌, arith, length-drop}
 use Rattle.std.proofs.ByRecursion.{All-from_get_or}
-use Rattle.std.proofs.lemmas.Bool.{lt-ltb, cond-true}
-use Rattle.std.proofs.lemmas.Slice.{between_to_end}
+use Rattle.std.proofs.lemmas.List.{take_all}
 use Rattle.docket.specs.Bits.{unpack}
-use Rattle.docket.specs.Entries.{plain_of}
+use Rattle.docket.specs.Entries.{Plain, plain_of, size_of}
 use Rattle.docket.specs.Reading.{Reading, entry, entry_at, placed_at, read_at}
-use Rattle.docket.specs.Laws.{Bytes}
-use Rattle.docket.proofs.Placing.{at_end, at_entry}
+use Rattle.docket.proofs.Rows.{length_unpack}
+use Rattle.docket.proofs.Placing.{at_entry}
 use Rattle.docket.proofs.Laws.{laws, was}
 use Rattle.docket.proofs.read.read_entry.Goals as goal
 
--- what was read of the bytes from the place on stands there
-stands : (bytes : List ℕ) (place : ℕ) (r : Reading) → place < length bytes → r ≡ entry_at (unpack (between place (length bytes) bytes))
-    → placed_at place r ≡ read_at bytes place
-stands bytes place r h e =
-    ap (placed_at place) (e ∙ ap (λ (x : List ℕ). entry_at (unpack x)) (between_to_end bytes place (length bytes) (omega arith)))
-    ∙ sym (at_entry bytes place h)
+-- the bytes from the place on, read as an entry and the whole bytes behind it
+module _ (bytes bits after : List ℕ) (place whole : ℕ) (e : Plain) (inside : place ≤ length bytes) (start : bits ≡ unpack (take (length bytes - place) (drop place bytes))) (size : length bits ≡ 8 * size_of e + length after) (is : whole ≡ length after / 8) where
+  rest : take (length bytes - place) (drop place bytes) ≡ drop place bytes
+  rest = take_all (length bytes - place) (drop place bytes) (omega (arith, length-drop place bytes))
 
-pub returns-then-place-bytes : goal.returns-then-place-bytes
-returns-then-place-bytes c =
-    record { answer = sym (cond-true _ _ _ (lt-ltb (length c.args.bytes.now) c.args.place (omega arith))); written = tt; laws = laws }
+  sizes : whole + (place + size_of e) ≡ length bytes
+  sizes = omega (arith, ap length (start ∙ ap unpack rest) ∙ length_unpack (drop place bytes), length-drop place bytes)
 
-pub returns-then-at-bytes : goal.returns-then-at-bytes
-returns-then-at-bytes c =
-    record { answer = sym (at_end c.args.bytes.now c.args.place (omega arith)); written = omega arith; laws = laws }
+  found : (place ≡ length bytes → ⊥) → ◌≡◌ {A = Reading} (Ok e) (entry_at bits) → entry e (length bytes - whole) ≡ read_at bytes place
+  found more read =
+      ap (entry e) (omega (arith, sizes))
+      ∙ (ap (placed_at place) (read ∙ ap entry_at (start ∙ ap unpack rest)) ∙ sym (at_entry bytes place (omega (arith, more))))
 
-pub returns-in-Err : goal.returns-in-Err
-returns-in-Err c =
-    record { answer = stands c.args.bytes.now c.args.place _ (omega arith) c.in-Err.ensures; written = tt; laws = laws }
+pub entry-requires : goal.entry-requires
+entry-requires c =
+    omega (arith, ap length c.new-bits.ensures, length_unpack (take (length c.args.bytes.now - c.args.place) (drop c.args.place c.args.bytes.now)))
 
-pub returns-in-Ok : goal.returns-in-Ok
-returns-in-Ok c =
+pub overflow_sub-next : goal.overflow_sub-next
+overflow_sub-next c =
+    let e = plain_of c.in_ok-entry.entry in
+    omega (arith, sizes c.args.bytes.now c.new-bits.result c.entry.new.self c.args.place c.whole_bytes.result e c.if-place-len.false c.new-bits.ensures c.in_ok-entry.ensures.size c.whole_bytes.ensures)
+
+pub returns : goal.returns
+returns c =
     let bytes = c.args.bytes.now in
     let place = c.args.place in
-    let e = plain_of c.in-Ok.entry in
-    let r : entry e (place + c.size_of.result) ≡ read_at bytes place =
-    ap (λ (n : ℕ). entry e (place + n)) c.size_of.ensures.value ∙ stands bytes place _ (omega arith) c.in-Ok.ensures in
-    let b : Bytes bytes = All-from_get_or (λ b. b < 256) bytes 0 (λ i _. let h = c.type_inv.bytes i in omega arith) in
-    record { answer = r; written = was bytes place (entry e (place + c.size_of.result)) b r; laws = laws }
+    let e = plain_of c.in_ok-entry.entry in
+    let f =
+    found bytes c.new-bits.result c.entry.new.self place c.whole_bytes.result e c.if-place-len.false c.new-bits.ensures c.in_ok-entry.ensures.size c.whole_bytes.ensures
+    c.if-place-len-2.false c.in_ok-entry.ensures.answer in
+    record {
+      answer = f;
+      written = was bytes place (entry e (length bytes - c.whole_bytes.result)) (All-from_get_or (λ b. b < 256) bytes 0 (λ i _. let h = c.type_inv.bytes i in omega arith)) f;
+      laws = laws;
+    }
