@@ -1,7 +1,7 @@
 ghost use Rattle.std.specs.Prelude.{◌≡◌, is_some};
 ghost use Rattle.words.specs.Parted.{parted};
-ghost use Rattle.words.specs.Clauses.{hex_all};
-ghost use Rattle.words.specs.Formulas.{formula_of, written_in};
+ghost use Rattle.words.specs.Clauses.{hex_all, or_none};
+ghost use Rattle.words.specs.Formulas.{formula_of, written, written_in};
 
 use super::{ClausesWord, FormulaWord};
 use crate::hex_four;
@@ -12,6 +12,19 @@ fn is_clauses(word: &[u8]) -> bool
 {
     word.split(|&byte| byte == b'.')
         .all(|part| hex_four(part).is_some())
+}
+
+impl<'a> FormulaWord<'a> {
+    /// The clauses of any part of a line; a part that writes none counts as True.
+    pub fn of_part(part: &'a [u8]) -> FormulaWord<'a>
+        ensures { written result ≡ or_none (hex_all (parted 46 part.now)) }
+    {
+        if is_clauses(part) {
+            FormulaWord::Clauses(ClausesWord { part })
+        } else {
+            FormulaWord::True
+        }
+    }
 }
 
 /// The word as a formula, if it writes one.
