@@ -14,26 +14,29 @@ use Rattle.docket.proofs.Numbers.{Bits, Bits-take, Bits-drop, bits_number, numbe
 err_ok : (q : ℕ) (e : Plain) → ◌≡◌ {A = Reading} (Err q) (Ok e) → ⊥
 err_ok q e p = let z : ◌≡◌ {A = ℕ} 0 1 = cc in omega arith
 
--- a field that an accepted row begins with
-record Here (w : ℕ) (U : List ℕ) (next : ℕ → List ℕ → Reading) (e : Plain) : Type 0 where
-  v : ℕ
+-- what an accepted row begins with: the bits of a value, and behind them bits that are read on
+record Begun {A : Type 0} (row : A → List ℕ) (Fine : A → Type 0) (next : A → List ℕ → Reading) (U : List ℕ) (e : Plain) : Type 0 where
+  value : A
   rest : List ℕ
-  small : v < 2 ^ w
-  whole : U ≡ bits w v ++ rest
+  fine : Fine value
+  whole : U ≡ row value ++ rest
   rest_bits : Bits rest
-  more : next v rest ≡ Ok e
+  more : next value rest ≡ Ok e
 
-field_inv : (w : ℕ) (U : List ℕ) (next : ℕ → List ℕ → Reading) (e : Plain) → Bits U → field w U next ≡ Ok e → Here w U next e
+abbrev Below : ℕ → ℕ → Type 0
+Below w v = v < 2 ^ w
+
+field_inv : (w : ℕ) (U : List ℕ) (next : ℕ → List ℕ → Reading) (e : Plain) → Bits U → field w U next ≡ Ok e → Begun (bits w) (Below w) next U e
 field_inv w U next e b q = go (leb w (length U)) refl
   where
-    go : (x : Bool) → leb w (length U) ≡ x → Here w U next e
+    go : (x : Bool) → leb w (length U) ≡ x → Begun (bits w) (Below w) next U e
     go true p =
         let l : length (take w U) ≡ w = length-take-le w U (leb-true w (length U) p) in
         let t = Bits-take w U b in
         record {
-          v = number (take w U);
+          value = number (take w U);
           rest = drop w U;
-          small = subst (λ (k : ℕ). number (take w U) < 2 ^ k) l (number_small (take w U) t);
+          fine = subst (λ (k : ℕ). number (take w U) < 2 ^ k) l (number_small (take w U) t);
           whole =
               sym (take-append-drop w U)
               ∙ ap (λ (x : List ℕ). x ++ drop w U) (sym (subst (λ (k : ℕ). bits k (number (take w U)) ≡ take w U) l (bits_number (take w U) t)));
@@ -46,101 +49,79 @@ lawful_inv : (b : Bool) (r : Reading) (e : Plain) → lawful b r ≡ Ok e → (b
 lawful_inv true r e p = (refl, p)
 lawful_inv false r e p = absurd (err_ok 20 e p)
 
-record WordsHere (n : ℕ) (U : List ℕ) (next : List ℕ → List ℕ → Reading) (e : Plain) : Type 0 where
-  vs : List ℕ
-  rest : List ℕ
-  size : length vs ≡ n
-  small : Sets vs
-  whole : U ≡ words vs ++ rest
-  rest_bits : Bits rest
-  more : next vs rest ≡ Ok e
+abbrev Counted : ℕ → List ℕ → Type 0
+Counted n vs = (length vs ≡ n) × Sets vs
 
-words_inv : (n : ℕ) (U : List ℕ) (next : List ℕ → List ℕ → Reading) (e : Plain) → Bits U → words_at n U next ≡ Ok e → WordsHere n U next e
-words_inv zero U next e b p = record { vs = []; rest = U; size = refl; small = tt; whole = refl; rest_bits = b; more = p }
+words_inv : (n : ℕ) (U : List ℕ) (next : List ℕ → List ℕ → Reading) (e : Plain) → Bits U → words_at n U next ≡ Ok e → Begun words (Counted n) next U e
+words_inv zero U next e b p = record { value = []; rest = U; fine = (refl, tt); whole = refl; rest_bits = b; more = p }
 words_inv (suc n) U next e b p =
     let h = field_inv 16 U (λ v V. words_at n V (λ vs W. next (v ∷ vs) W)) e b p in
-    let r = words_inv n h.rest (λ vs W. next (h.v ∷ vs) W) e h.rest_bits h.more in
+    let r = words_inv n h.rest (λ vs W. next (h.value ∷ vs) W) e h.rest_bits h.more in
     record {
-      vs = h.v ∷ r.vs;
+      value = h.value ∷ r.value;
       rest = r.rest;
-      size = ap suc r.size;
-      small = (h.small, r.small);
-      whole = h.whole ∙ ap (λ (x : List ℕ). bits 16 h.v ++ x) r.whole;
+      fine = (ap suc r.fine.0, (h.fine, r.fine.1));
+      whole = h.whole ∙ ap (λ (x : List ℕ). bits 16 h.value ++ x) r.whole;
       rest_bits = r.rest_bits;
       more = r.more;
     }
 
-record AnswerHere (U : List ℕ) (next : Told → List ℕ → Reading) (e : Plain) : Type 0 where
-  told : Told
-  rest : List ℕ
-  whole : U ≡ answer_bits told ++ rest
-  carried : carries_answer told ≡ true
-  groups : Sets (values_of told)
-  rest_bits : Bits rest
-  more : next told rest ≡ Ok e
+question_row : (U V W X vs : List ℕ) (b q : ℕ) → U ≡ bits 1 b ++ V → b ≡ 0 → V ≡ bits 5 q ++ W → W ≡ words vs ++ X → U ≡ answer_bits (refused q vs) ++ X
+question_row U V W X vs b q e z f g = rw (e, z, f, g) refl
 
-answer_inv : (U : List ℕ) (next : Told → List ℕ → Reading) (e : Plain) → Bits U → answer_at U next ≡ Ok e → AnswerHere U next e
-answer_inv U next e b p = go (eqb h.v 1) refl
+abbrev Answered : Told → Type 0
+Answered a = (carries_answer a ≡ true) × Sets (values_of a)
+
+answer_inv : (U : List ℕ) (next : Told → List ℕ → Reading) (e : Plain) → Bits U → answer_at U next ≡ Ok e → Begun answer_bits Answered next U e
+answer_inv U next e b p = go (eqb h.value 1) refl
   where
-    h : Here 1 U (λ b V. cond (eqb b 1) (next (granted []) V) (question_at V next)) e
+    h : Begun (bits 1) (Below 1) (λ b V. cond (eqb b 1) (next (granted []) V) (question_at V next)) U e
     h = field_inv 1 U (λ b V. cond (eqb b 1) (next (granted []) V) (question_at V next)) e b p
 
-    go : (x : Bool) → eqb h.v 1 ≡ x → AnswerHere U next e
+    go : (x : Bool) → eqb h.value 1 ≡ x → Begun answer_bits Answered next U e
     go true x =
         record {
-          told = granted [];
+          value = granted [];
           rest = h.rest;
-          whole = h.whole ∙ ap (λ (k : ℕ). bits 1 k ++ h.rest) (eqb-true h.v 1 x);
-          carried = refl;
-          groups = tt;
+          fine = (refl, tt);
+          whole = h.whole ∙ ap (λ (k : ℕ). bits 1 k ++ h.rest) (eqb-true h.value 1 x);
           rest_bits = h.rest_bits;
           more = sym (cond-true _ _ _ x) ∙ h.more;
         }
     go false x =
-        let no : h.v ≡ 1 → ⊥ = eqb-false h.v 1 x in
-        let sm : h.v < 2 = h.small in
-        let z : h.v ≡ 0 = omega (arith, no) in
+        let no : h.value ≡ 1 → ⊥ = eqb-false h.value 1 x in
+        let sm : h.value < 2 = h.fine in
+        let z : h.value ≡ 0 = omega (arith, no) in
         let g = field_inv 5 h.rest (λ q V. lawful (asked q) (words_at (brings q) V (λ vs W. next (refused q vs) W))) e h.rest_bits (sym (cond-false _ _ _ x) ∙ h.more) in
-        let q = g.v in
+        let q = g.value in
         let m = lawful_inv (asked q) (words_at (brings q) g.rest (λ vs W. next (refused q vs) W)) e g.more in
         let ws = words_inv (brings q) g.rest (λ vs W. next (refused q vs) W) e g.rest_bits m.1 in
         record {
-          told = refused q ws.vs;
+          value = refused q ws.value;
           rest = ws.rest;
-          whole =
-              h.whole
-              ∙ (ap (λ (y : List ℕ). bits 1 h.v ++ y) (g.whole ∙ ap (λ (y : List ℕ). bits 5 q ++ y) ws.whole)
-              ∙ ap (λ (k : ℕ). bits 1 k ++ (bits 5 q ++ (words ws.vs ++ ws.rest))) z);
-          carried = and_from (asked q) (eqb (length ws.vs) (brings q)) m.0 (eq-eqb (length ws.vs) (brings q) ws.size);
-          groups = ws.small;
+          fine = (and_from (asked q) (eqb (length ws.value) (brings q)) m.0 (eq-eqb (length ws.value) (brings q) ws.fine.0), ws.fine.1);
+          whole = question_row U h.rest g.rest ws.rest ws.value h.value q h.whole z g.whole ws.whole;
           rest_bits = ws.rest_bits;
           more = ws.more;
         }
 
-record FormulaHere (U : List ℕ) (next : List ℕ → List ℕ → Reading) (e : Plain) : Type 0 where
-  cs : List ℕ
-  rest : List ℕ
-  whole : U ≡ formula_bits cs ++ rest
-  form : kept cs ≡ true
-  small : Sets cs
-  rest_bits : Bits rest
-  more : next cs rest ≡ Ok e
+abbrev Kept : List ℕ → Type 0
+Kept cs = (kept cs ≡ true) × Sets cs
 
-formula_inv : (U : List ℕ) (next : List ℕ → List ℕ → Reading) (e : Plain) → Bits U → formula_at U next ≡ Ok e → FormulaHere U next e
+formula_inv : (U : List ℕ) (next : List ℕ → List ℕ → Reading) (e : Plain) → Bits U → formula_at U next ≡ Ok e → Begun formula_bits Kept next U e
 formula_inv U next e b p =
     let judged : List ℕ → List ℕ → Reading = λ cs W. lawful (kept cs) (next cs W) in
     let h = field_inv 4 U (λ n V. lawful (leb n 8) (words_at n V (λ cs W. lawful (kept cs) (next cs W)))) e b p in
-    let m = lawful_inv (leb h.v 8) (words_at h.v h.rest judged) e h.more in
-    let ws = words_inv h.v h.rest judged e h.rest_bits m.1 in
-    let j = lawful_inv (kept ws.vs) (next ws.vs ws.rest) e ws.more in
+    let m = lawful_inv (leb h.value 8) (words_at h.value h.rest judged) e h.more in
+    let ws = words_inv h.value h.rest judged e h.rest_bits m.1 in
+    let j = lawful_inv (kept ws.value) (next ws.value ws.rest) e ws.more in
     record {
-      cs = ws.vs;
+      value = ws.value;
       rest = ws.rest;
+      fine = (j.0, ws.fine.1);
       whole =
           h.whole
-          ∙ (ap (λ (y : List ℕ). bits 4 h.v ++ y) ws.whole ∙ ap (λ (k : ℕ). bits 4 k ++ (words ws.vs ++ ws.rest)) (sym ws.size));
-      form = j.0;
-      small = ws.small;
+          ∙ (ap (λ (y : List ℕ). bits 4 h.value ++ y) ws.whole ∙ ap (λ (k : ℕ). bits 4 k ++ (words ws.value ++ ws.rest)) (sym ws.fine.0));
       rest_bits = ws.rest_bits;
       more = j.1;
     }
@@ -156,47 +137,44 @@ pub record Whole (U : List ℕ) (e : Plain) : Type 0 where
   pub carried : Carried e
   pub whole : U ≡ entry_bits e ++ rest
 
-join : (U U1 U2 U3 U4 U5 U6 cs : List ℕ) (k t r p : ℕ) (a : Told) → k < 2 → U ≡ bits 1 k ++ U1 → U1 ≡ bits 3 t ++ U2 → U2 ≡ bits 6 r ++ U3
+join : (U U1 U2 U3 U4 U5 U6 cs : List ℕ) (b k t r p : ℕ) (a : Told) → U ≡ bits 1 b ++ U1 → b ≡ kind_bit (kind_of k) → U1 ≡ bits 3 t ++ U2 → U2 ≡ bits 6 r ++ U3
     → U3 ≡ answer_bits a ++ U4 → U4 ≡ formula_bits cs ++ U5 → U5 ≡ bits (pad_size a) p ++ U6 → p ≡ 0 → U ≡ entry_bits (made k t r a cs) ++ U6
-join U U1 U2 U3 U4 U5 U6 cs k t r p a h e1 e2 e3 e4 e5 e6 z =
+join U U1 U2 U3 U4 U5 U6 cs b k t r p a e1 kind e2 e3 e4 e5 e6 z =
+    let A : List ℕ = answer_bits a in
+    let F : List ℕ = formula_bits cs in
     let P : List ℕ = bits (pad_size a) 0 in
-    let q : U5 ≡ P ++ U6 = e6 ∙ ap (λ (i : ℕ). bits (pad_size a) i ++ U6) z in
-    let f : U4 ≡ (formula_bits cs ++ P) ++ U6 =
-    e5 ∙ (ap (λ (y : List ℕ). formula_bits cs ++ y) q ∙ sym (append_assoc (formula_bits cs) P U6)) in
-    let g : U3 ≡ (answer_bits a ++ (formula_bits cs ++ P)) ++ U6 =
-    e4 ∙ (ap (λ (y : List ℕ). answer_bits a ++ y) f ∙ sym (append_assoc (answer_bits a) (formula_bits cs ++ P) U6)) in
-    e1
-    ∙ (ap (λ (y : List ℕ). bits 1 k ++ y) (e2 ∙ ap (λ (y : List ℕ). bits 3 t ++ y) (e3 ∙ ap (λ (y : List ℕ). bits 6 r ++ y) g))
-    ∙ ap (λ (i : ℕ). bits 1 i ++ (bits 3 t ++ (bits 6 r ++ ((answer_bits a ++ (formula_bits cs ++ P)) ++ U6)))) (sym (kind_bit_lem k h)))
+    rw (e1, kind, e2, e3, e4, e5, e6, z)
+    (ap (λ (y : List ℕ). bits 1 (kind_bit (kind_of k)) ++ (bits 3 t ++ (bits 6 r ++ y)))
+    (sym (append_assoc A (F ++ P) U6 ∙ ap (λ (y : List ℕ). A ++ y) (append_assoc F P U6))))
 
 pub was_written : (U : List ℕ) (e : Plain) → Bits U → entry_at U ≡ Ok e → Whole U e
 was_written U e b p =
     let h1 = field_inv 1 U task_at e b p in
-    let k = h1.v in
+    let k = h1.value in
     let h2 = field_inv 3 h1.rest (record_at k) e h1.rest_bits h1.more in
-    let t = h2.v in
+    let t = h2.value in
     let h3 = field_inv 6 h2.rest (told_at k t) e h2.rest_bits h2.more in
-    let r = h3.v in
+    let r = h3.value in
     let h4 = answer_inv h3.rest (new_at k t r) e h3.rest_bits h3.more in
-    let a = h4.told in
+    let a = h4.value in
     let h5 = formula_inv h4.rest (λ cs V. pad_at (made k t r a cs) V) e h4.rest_bits h4.more in
-    let x = made k t r a h5.cs in
+    let x = made k t r a h5.value in
     let h6 = field_inv (pad_size a) h5.rest (λ p V. lawful (eqb p 0) (Ok x)) e h5.rest_bits h5.more in
-    let z = lawful_inv (eqb h6.v 0) (Ok x) e h6.more in
+    let z = lawful_inv (eqb h6.value 0) (Ok x) e h6.more in
     let same : x ≡ e = let q = z.1 in cc in
-    subst (Whole U) same
+    subst (Whole U) {x = x} same
     (record {
       rest = h6.rest;
       carried =
           record {
             fields =
-                and_from (ltb t 8) (ltb r 64 && carries_answer a) (lt-ltb t 8 h2.small)
-                (and_from (ltb r 64) (carries_answer a) (lt-ltb r 64 h3.small) h4.carried);
-            form = h5.form;
-            groups = h4.groups;
-            clauses = h5.small;
+                and_from (ltb t 8) (ltb r 64 && carries_answer a) (lt-ltb t 8 h2.fine)
+                (and_from (ltb r 64) (carries_answer a) (lt-ltb r 64 h3.fine) h4.fine.0);
+            form = h5.fine.0;
+            groups = h4.fine.1;
+            clauses = h5.fine.1;
           };
       whole =
-          join U h1.rest h2.rest h3.rest h4.rest h5.rest h6.rest h5.cs k t r h6.v a
-          h1.small h1.whole h2.whole h3.whole h4.whole h5.whole h6.whole (eqb-true h6.v 0 z.0);
+          join U h1.rest h2.rest h3.rest h4.rest h5.rest h6.rest h5.value k k t r h6.value a
+          h1.whole (sym (kind_bit_lem k h1.fine)) h2.whole h3.whole h4.whole h5.whole h6.whole (eqb-true h6.value 0 z.0);
     })

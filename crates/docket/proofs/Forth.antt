@@ -1,17 +1,13 @@
 -- What is written is read back.
-use Rattle.std.proofs.Common.{◌≡◌, ℕ, ◌^◌, ◌<◌, ◌≤◌, true, cond, ◌&&◌, ◌||◌, eqb, ltb, leb, List, [], ◌∷◌, ◌++◌, length, take, drop, Ok, sym, refl, ap, ◌∙◌, inl, inr, arith, length-append}
-use Rattle.std.proofs.lemmas.Nat.{pow_pos}
-use Rattle.std.proofs.lemmas.List.{append_assoc, take_at, drop_at}
-use Rattle.std.proofs.lemmas.Bool.{le-leb, eqb-true, leb-true, ltb-true, and_parts, or_cases, cond-true}
+use Rattle.std.proofs.Common.{◌≡◌, ℕ, ◌^◌, ◌<◌, ◌≤◌, true, cond, ◌&&◌, ◌||◌, eqb, leb, List, [], ◌∷◌, ◌++◌, length, take, drop, sym, refl, ap, ◌∙◌, inl, inr, arith, length-append}
+use Rattle.std.proofs.lemmas.List.{take_at, drop_at}
+use Rattle.std.proofs.lemmas.Bool.{le-leb, eqb-true, leb-true, and_parts, or_cases, cond-true}
 use Rattle.answer.specs.Told.{Told, granted, refused}
 use Rattle.formula.specs.Keeping.{kept, ordered}
-use Rattle.label.specs.declared.kind.Kind.{Kind}
-use Rattle.label.specs.declared.kind.Kind.TheVariants.{Release, Endorse}
-use Rattle.label.specs.Kinds.{kind_bit}
 use Rattle.docket.specs.Bits.{bits, number}
-use Rattle.docket.specs.Entries.{Plain, asked, brings, carries_answer, words, answer_bits, formula_bits, pad_size, entry_bits}
-use Rattle.docket.specs.Reading.{Reading, field, lawful, words_at, question_at, answer_at, formula_at, pad_at, kind_of, made, new_at, told_at, record_at, task_at, entry_at}
-use Rattle.docket.specs.Laws.{Sets, values_of, Carried}
+use Rattle.docket.specs.Entries.{asked, brings, carries_answer, words, answer_bits, formula_bits}
+use Rattle.docket.specs.Reading.{Reading, field, lawful, words_at, question_at, answer_at, formula_at}
+use Rattle.docket.specs.Laws.{Sets, values_of}
 use Rattle.docket.proofs.Rows.{length_bits}
 use Rattle.docket.proofs.Numbers.{number_bits}
 
@@ -59,39 +55,3 @@ formula_here cs rest next k s =
     let n = kept_small cs k in
     field_here 4 (length cs) (words cs ++ rest) (λ n V. lawful (leb n 8) (words_at n V (λ cs W. lawful (kept cs) (next cs W)))) (omega arith)
     ∙ (cond-true _ _ _ (le-leb (length cs) 8 n) ∙ (words_here cs rest (λ cs W. lawful (kept cs) (next cs W)) s ∙ cond-true _ _ _ k))
-
-kind_small : (a : Kind) → kind_bit a < 2
-kind_small Release = omega arith
-kind_small Endorse = omega arith
-
-kind_back : (a : Kind) → kind_of (kind_bit a) ≡ a
-kind_back Release = refl
-kind_back Endorse = refl
-
-pub reads_back_bits : (e : Plain) (rest : List ℕ) → Carried e → entry_at (entry_bits e ++ rest) ≡ Ok e
-reads_back_bits e rest h =
-    let a = e.answer in
-    let cs = e.new in
-    let k = kind_bit e.kind in
-    let t = e.task in
-    let r = e.«record» in
-    let x = made k t r a cs in
-    let P : List ℕ = bits (pad_size a) 0 in
-    let f = and_parts (ltb t 8) (ltb r 64 && carries_answer a) h.fields in
-    let g = and_parts (ltb r 64) (carries_answer a) f.1 in
-    let R : List ℕ = (answer_bits a ++ (formula_bits cs ++ P)) ++ rest in
-    let whole : R ≡ answer_bits a ++ (formula_bits cs ++ (P ++ rest)) =
-    append_assoc (answer_bits a) (formula_bits cs ++ P) rest
-    ∙ ap (λ (y : List ℕ). answer_bits a ++ (bits 4 (length cs) ++ y)) (append_assoc (words cs) P rest) in
-    field_here 1 k (bits 3 t ++ (bits 6 r ++ R)) task_at (kind_small e.kind)
-    ∙ (field_here 3 t (bits 6 r ++ R) (record_at k) (ltb-true t 8 f.0)
-    ∙ (field_here 6 r R (told_at k t) (ltb-true r 64 g.0)
-    ∙ (ap (told_at k t r) whole
-    ∙ (answer_here a (formula_bits cs ++ (P ++ rest)) (new_at k t r) g.1 h.groups
-    ∙ (formula_here cs (P ++ rest) (λ cs V. pad_at (made k t r a cs) V) h.form h.clauses
-    ∙ (field_here (pad_size a) 0 rest (λ p V. lawful (eqb p 0) (Ok x)) (pow_pos (pad_size a))
-    ∙ named e (kind_of k) (kind_back e.kind)))))))
-  where
-    named : (e : Plain) (k : Kind) → k ≡ e.kind
-        → ◌≡◌ {A = Reading} (Ok (record { kind = k; task = e.task; «record» = e.«record»; answer = e.answer; new = e.new })) (Ok e)
-    named e k q = ap (λ (x : Kind). Ok (record { kind = x; task = e.task; «record» = e.«record»; answer = e.answer; new = e.new })) q

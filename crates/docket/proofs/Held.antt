@@ -25,9 +25,6 @@ module _ (held count w m : ℕ) (low : held < 2 ^ count) (size : count ≡ w + m
   one : (1 * 2 ^ m) % 4294967296 ≡ 2 ^ m
   one = one_shl m 32 few
 
-  pub some : (1 * 2 ^ m) % 4294967296 ≡ 0 → ⊥
-  some z = omega (arith, one, pow_pos m)
-
   pub cut_small : held / 2 ^ m < 2 ^ w
   cut_small = shr_below held w m (subst (λ (k : ℕ). held < 2 ^ k) size low)
 

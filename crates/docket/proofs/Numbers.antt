@@ -1,5 +1,5 @@
 -- Numbers and their bits.
-use Rattle.std.proofs.Common.{◌≡◌, ℕ, zero, suc, ◌+◌, ◌*◌, ◌/◌, ◌%◌, ◌^◌, ◌<◌, List, [], ◌∷◌, ◌++◌, length, take, drop, sym, refl, ap, ◌∙◌, subst, add-zero, mul-le-mul_right, mod-eq_of_lt, mul_assoc, mul_comm, add-mul, zero-add, arith, pow-add}
+use Rattle.std.proofs.Common.{◌≡◌, ℕ, zero, suc, ◌+◌, ◌*◌, ◌/◌, ◌%◌, ◌^◌, ◌<◌, List, [], ◌∷◌, ◌++◌, length, take, drop, sym, ap, ◌∙◌, subst, add-zero, mul-le-mul_right, mod-eq_of_lt, mul_assoc, zero-add, arith, pow-add}
 use Rattle.std.proofs.lemmas.Nat.{mod-pow-add}
 use Rattle.std.proofs.lemmas.List.{append_assoc, append-nil}
 use Rattle.docket.specs.Bits.{bits, unpack, number, number_from}
@@ -88,24 +88,3 @@ Bits-append (x ∷ xs) ys a b = (a.0, Bits-append xs ys a.1 b)
 pub Bits-unpack : (bs : List ℕ) → Bits (unpack bs)
 Bits-unpack [] = tt
 Bits-unpack (b ∷ bs) = Bits-append (bits 8 b) (unpack bs) (bits_bits 8 b) (Bits-unpack bs)
-
--- a number whose bits stand behind those of another
-from_number : (n : ℕ) (ys : List ℕ) → number_from n ys ≡ n * 2 ^ length ys + number ys
-from_number n [] = omega arith
-from_number n (y ∷ ys) =
-    let p : 2 ^ suc (length ys) ≡ 2 * 2 ^ length ys = ap (λ (k : ℕ). 2 ^ k) (omega arith) ∙ pow-add 2 1 (length ys) in
-    let a = from_number (2 * n + y) ys in
-    let b = from_number (2 * 0 + y) ys in
-    let c : (2 * n + y) * 2 ^ length ys ≡ 2 * n * 2 ^ length ys + y * 2 ^ length ys = add-mul (2 * n) y (2 ^ length ys) in
-    let d : n * (2 * 2 ^ length ys) ≡ 2 * n * 2 ^ length ys =
-    sym (mul_assoc n 2 (2 ^ length ys)) ∙ ap (λ (k : ℕ). k * 2 ^ length ys) (mul_comm n 2) in
-    let e : n * 2 ^ suc (length ys) ≡ n * (2 * 2 ^ length ys) = ap (λ (k : ℕ). n * k) p in
-    let f : (2 * 0 + y) * 2 ^ length ys ≡ y * 2 ^ length ys = ap (λ (k : ℕ). k * 2 ^ length ys) (omega arith) in
-    omega (arith, a, b, c, d, e, f)
-
-number_from_append : (n : ℕ) (xs ys : List ℕ) → number_from n (xs ++ ys) ≡ number_from (number_from n xs) ys
-number_from_append n [] ys = refl
-number_from_append n (x ∷ xs) ys = number_from_append (2 * n + x) xs ys
-
-pub number_append : (xs ys : List ℕ) → number (xs ++ ys) ≡ number xs * 2 ^ length ys + number ys
-number_append xs ys = number_from_append 0 xs ys ∙ from_number (number xs) ys

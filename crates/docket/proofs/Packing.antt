@@ -100,3 +100,7 @@ brings_one q = go (eqb q 16)
     go : (b : Bool) → cond b 1 0 ≤ 1
     go true = omega arith
     go false = omega arith
+
+pub pad_most : (a : Told) → pad_size a ≤ 4
+pad_most (granted vs) = omega arith
+pad_most (refused q vs) = omega arith

@@ -1,7 +1,7 @@
 -- Rows of bits.
-use Rattle.std.proofs.Common.{◌≡◌, ℕ, zero, suc, ◌+◌, ◌*◌, ◌/◌, ◌%◌, ◌^◌, ◌<◌, List, [], ◌∷◌, ◌++◌, length, take, drop, sym, refl, ap, ◌∙◌, add-zero, zero-add, arith}
+use Rattle.std.proofs.Common.{◌≡◌, ℕ, zero, suc, ◌+◌, ◌*◌, ◌/◌, ◌%◌, ◌^◌, ◌<◌, List, [], ◌∷◌, ◌++◌, length, sym, refl, ap, ◌∙◌, add-zero, zero-add, arith}
 use Rattle.std.proofs.lemmas.Nat.{shr-shr, mod-pow-add, field_of, shr_high, mod_low}
-use Rattle.std.proofs.lemmas.List.{append_assoc, drop-drop}
+use Rattle.std.proofs.lemmas.List.{append_assoc}
 use Rattle.docket.specs.Bits.{bits, unpack}
 
 pub length_unpack : (bs : List ℕ) → length (unpack bs) ≡ 8 * length bs
@@ -15,32 +15,6 @@ length_bits (suc w) n = ap suc (length_bits w n)
 pub unpack_append : (xs ys : List ℕ) → unpack (xs ++ ys) ≡ unpack xs ++ unpack ys
 unpack_append [] ys = refl
 unpack_append (x ∷ xs) ys = ap (λ (r : List ℕ). bits 8 x ++ r) (unpack_append xs ys) ∙ sym (append_assoc (bits 8 x) (unpack xs) (unpack ys))
-
-drop_nil : (n : ℕ) → ◌≡◌ {A = List ℕ} (drop n []) []
-drop_nil zero = refl
-drop_nil (suc n) = refl
-
-pub unpack_drop : (n : ℕ) (bs : List ℕ) → unpack (drop n bs) ≡ drop (8 * n) (unpack bs)
-unpack_drop zero bs = refl
-unpack_drop (suc n) [] = sym (drop_nil (8 * suc n))
-unpack_drop (suc n) (b ∷ bs) =
-    let e : 8 * suc n ≡ 8 + 8 * n = omega arith in
-    unpack_drop n bs ∙ (drop-drop (8 * n) 8 (unpack (b ∷ bs)) ∙ ap (λ (k : ℕ). drop k (unpack (b ∷ bs))) (sym e))
-
--- the first bits of a number are those of the number without its last
-pub take_bits : (w k n : ℕ) → take w (bits (w + k) n) ≡ bits w (n / 2 ^ k)
-take_bits zero k n = refl
-take_bits (suc w) k n =
-    let e : suc w + k ≡ suc (w + k) = omega arith in
-    let top : n / 2 ^ (w + k) ≡ n / 2 ^ k / 2 ^ w = ap (λ (j : ℕ). n / 2 ^ j) (omega arith) ∙ sym (shr-shr n k w) in
-    ap (λ (j : ℕ). take (suc w) (bits j n)) e
-    ∙ (ap (λ (x : ℕ). x % 2 ∷ take w (bits (w + k) n)) top ∙ ap (λ (r : List ℕ). n / 2 ^ k / 2 ^ w % 2 ∷ r) (take_bits w k n))
-
-pub drop_bits : (k w n : ℕ) → drop k (bits (k + w) n) ≡ bits w n
-drop_bits zero w n = ap (λ (j : ℕ). bits j n) (zero-add w)
-drop_bits (suc k) w n =
-    let e : suc k + w ≡ suc (k + w) = omega arith in
-    ap (λ (j : ℕ). drop (suc k) (bits j n)) e ∙ drop_bits k w n
 
 -- higher bits do not matter
 pub bits_low : (w n : ℕ) → bits w (n % 2 ^ w) ≡ bits w n

@@ -1,25 +1,26 @@
 -- An entry read part by part: what each step leaves to read, and where reading stops.
-use Rattle.std.proofs.Common.{◌≡◌, ℕ, zero, suc, ◌+◌, ◌*◌, ◌%◌, ◌^◌, ◌<◌, ◌≤◌, true, eqb, leb, List, [], ◌∷◌, ◌++◌, length, Some, None, Option, Ok, Err, sym, ap, ◌∙◌, arith, length-append}
-use Rattle.std.proofs.lemmas.Bool.{le-leb, lt-leb, cond-true, cond-false}
+use Rattle.std.proofs.lemmas.Nat.{pow_pos}
+use Rattle.std.proofs.lemmas.List.{append_assoc}
+use Rattle.std.proofs.Common.{◌≡◌, ℕ, zero, suc, ◌+◌, ◌*◌, ◌%◌, ◌^◌, ◌<◌, ◌≤◌, true, eqb, leb, List, [], ◌∷◌, ◌++◌, length, Some, None, Option, Ok, Err, sym, refl, ap, ◌∙◌, arith, length-append, ◌&&◌, ltb}
+use Rattle.std.proofs.lemmas.Bool.{ltb-true, and_parts, le-leb, lt-leb, cond-true, cond-false}
 use Rattle.std.specs.Option.{ok_or}
 use Rattle.std.specs.Result.{MatchResult}
 use Rattle.answer.specs.declared.Refusal.TheVariants.{Unlawful}
-use Rattle.answer.specs.Told.{Told, granted, refused}
+use Rattle.answer.specs.Told.{Told}
 use Rattle.formula.specs.declared.kept.Formula.{Formula}
 use Rattle.formula.specs.Of.{clauses_of}
 use Rattle.formula.specs.Keeping.{kept, keeping, clauses_in}
 use Rattle.formula.proofs.Keeping.{keeping_some, keeping_none}
+use Rattle.label.specs.declared.kind.Kind.{Kind}
+use Rattle.label.specs.declared.kind.Kind.TheVariants.{Release, Endorse}
+use Rattle.label.specs.Kinds.{kind_bit}
 use Rattle.docket.specs.Bits.{bits}
-use Rattle.docket.specs.Entries.{carries_answer, words, answer_bits, formula_bits, pad_size, size_of}
-use Rattle.docket.specs.Reading.{Reading, field, lawful, words_at, formula_at, pad_at, made, number_of, new_at, told_at, record_at, task_at, entry_at}
-use Rattle.docket.specs.Laws.{Sets, values_of}
+use Rattle.docket.specs.Entries.{Plain, carries_answer, words, answer_bits, formula_bits, pad_size, size_of, entry_bits}
+use Rattle.docket.specs.Reading.{Reading, field, lawful, words_at, formula_at, pad_at, kind_of, made, number_of, new_at, told_at, record_at, task_at, entry_at}
+use Rattle.docket.specs.Laws.{Sets, values_of, Carried}
 use Rattle.docket.proofs.Rows.{length_bits}
-use Rattle.docket.proofs.Packing.{length_answer, length_formula, sizes}
+use Rattle.docket.proofs.Packing.{length_answer, length_formula, sizes, pad_most}
 use Rattle.docket.proofs.Forth.{field_here, words_here, answer_here, formula_here}
-
-pad_most : (a : Told) → pad_size a ≤ 4
-pad_most (granted vs) = omega arith
-pad_most (refused q vs) = omega arith
 
 -- n clauses, of which fewer stand there
 words_short : (n : ℕ) (vs U : List ℕ) (next : List ℕ → List ℕ → Reading) → Sets vs → length vs < n → length U < 16 → words_at n (words vs ++ U) next ≡ Err 19
@@ -92,3 +93,27 @@ module _ (k t r : ℕ) (U U1 U2 U3 : List ℕ) (e1 : U ≡ bits 1 k ++ U1) (s1 :
             at_padding
             ∙ (ap (λ (i : ℕ). field i U5 next) (sym lengths.0)
             ∙ (ap (λ (x : List ℕ). field w x next) e6 ∙ field_here w p U6 next s6))
+
+kind_small : (a : Kind) → kind_bit a < 2
+kind_small Release = omega arith
+kind_small Endorse = omega arith
+
+kind_back : (a : Kind) → kind_of (kind_bit a) ≡ a
+kind_back Release = refl
+kind_back Endorse = refl
+
+-- an entry's bits are read as the entry, whatever stands behind them
+pub reads_back_bits : (e : Plain) (rest : List ℕ) → Carried e → entry_at (entry_bits e ++ rest) ≡ Ok e
+reads_back_bits e rest h =
+    let a = e.answer in
+    let cs = e.new in
+    let P : List ℕ = bits (pad_size a) 0 in
+    let f = and_parts (ltb e.task 8) (ltb e.«record» 64 && carries_answer a) h.fields in
+    let g = and_parts (ltb e.«record» 64) (carries_answer a) f.1 in
+    let behind : (answer_bits a ++ (formula_bits cs ++ P)) ++ rest ≡ answer_bits a ++ (formula_bits cs ++ (P ++ rest)) =
+    append_assoc (answer_bits a) (formula_bits cs ++ P) rest ∙ ap (λ (y : List ℕ). answer_bits a ++ y) (append_assoc (formula_bits cs) P rest) in
+    let same : made (kind_bit e.kind) e.task e.«record» a cs ≡ e = ap (λ (k : Kind). record e { kind = k }) (kind_back e.kind) in
+    at_padding (kind_bit e.kind) e.task e.«record» (entry_bits e ++ rest) _ _ _ refl (kind_small e.kind) refl (ltb-true e.task 8 f.0) refl (ltb-true e.«record» 64 g.0)
+    a _ behind g.1 h.groups cs (P ++ rest) refl h.form h.clauses
+    ∙ (field_here (pad_size a) 0 rest (λ p V. lawful (eqb p 0) (Ok (made (kind_bit e.kind) e.task e.«record» a cs))) (pow_pos (pad_size a))
+    ∙ ap (λ (x : Plain). Ok x) same)

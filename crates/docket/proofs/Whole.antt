@@ -10,7 +10,8 @@ use Rattle.docket.specs.Reading.{Reading, entry, over, refusal, entry_at, placed
 use Rattle.docket.specs.Laws.{Carried, BytesAreBits, EntryReadsBack, ReadWasWritten, ToldApart, docket_bytes, ReadsOn, DocketReadsBack, DocketWasWritten}
 use Rattle.docket.proofs.Rows.{length_unpack, unpack_append}
 use Rattle.docket.proofs.Numbers.{Bits-unpack}
-use Rattle.docket.proofs.Forth.{reads_back_bits, kept_small}
+use Rattle.docket.proofs.Forth.{kept_small}
+use Rattle.docket.proofs.Taking.{reads_back_bits}
 use Rattle.docket.proofs.Back.{was_written}
 use Rattle.docket.proofs.Packing.{packed_is, length_entry_bits, unpack_entry, length_entry, head_positive, brings_one}
 use Rattle.docket.proofs.Placing.{at_end, at_entry}

@@ -63,10 +63,7 @@ fn is_carried_answer(answer: Result<(), Refusal>) -> bool
 fn is_asked(question: u8) -> bool
     ensures { result ≡ asked question }
 {
-    match question {
-        5 | 6 | 12..=16 => true,
-        _ => false,
-    }
+    matches!(question, 5 | 6 | 12..=16)
 }
 
 impl BitsPacked {

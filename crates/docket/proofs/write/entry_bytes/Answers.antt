@@ -1,21 +1,17 @@
-use Rattle.std.proofs.Common.{◌≡◌, ℕ, ◌+◌, ◌-◌, ◌*◌, ◌%◌, ◌<◌, ◌≤◌, true, List, [], ◌++◌, length, sym, refl, ap, ◌∙◌, arith, length-append}
+use Rattle.std.proofs.Common.{◌≡◌, ℕ, ◌+◌, ◌-◌, ◌*◌, ◌%◌, ◌≤◌, true, List, [], ◌++◌, length, sym, refl, ap, ◌∙◌, arith, length-append}
 use Rattle.std.proofs.lemmas.Bool.{cond-true}
 use Rattle.std.proofs.lemmas.List.{append_assoc}
-use Rattle.answer.specs.Told.{Told, granted, refused, says, nothing}
+use Rattle.answer.specs.Told.{granted, says, nothing}
 use Rattle.formula.proofs.Keeping.{kept_clauses, sixteen_clauses}
 use Rattle.label.specs.Kinds.{kind_bit}
 use Rattle.docket.specs.Bits.{bits, unpack}
 use Rattle.docket.specs.Entries.{Plain, plain_of, carries, answer_bits, formula_bits, pad_size, size_of, entry_bits, entry_bytes}
 use Rattle.docket.specs.declared.entry.Entry.{Entry}
 use Rattle.docket.specs.Laws.{Bytes, Sets, values_of, Carried}
-use Rattle.docket.proofs.Packing.{packed_is, length_answer, length_formula, length_entry_bits, sizes}
+use Rattle.docket.proofs.Packing.{packed_is, length_answer, length_formula, length_entry_bits, sizes, pad_most}
 use Rattle.docket.proofs.Rows.{length_unpack}
 use Rattle.docket.proofs.Whole.{longest}
 use Rattle.docket.proofs.write.entry_bytes.Goals as goal
-
-pad_small : (a : Told) → pad_size a < 8
-pad_small (granted vs) = omega arith
-pad_small (refused q vs) = omega arith
 
 -- the kind, the task and the record, then the answer, then the formula, then zeros to the byte's end
 module _ (e : Plain) (k : ℕ) (n p q h a f : List ℕ) (kind : k ≡ kind_bit e.kind) (none : n ≡ []) (one : p ≡ n ++ bits 1 k) (three : q ≡ p ++ bits 3 e.task) (six : h ≡ q ++ bits 6 e.«record») (answered : a ≡ h ++ answer_bits e.answer) (formed : f ≡ a ++ formula_bits e.new) where
@@ -40,7 +36,7 @@ module _ (e : Plain) (k : ℕ) (n p q h a f : List ℕ) (kind : k ≡ kind_bit e
 
   packed_so : (bytes : List ℕ) → unpack bytes ≡ f ++ bits ((8 - length f % 8) % 8) 0 → Bytes bytes → bytes ≡ entry_bytes e
   packed_so bytes row small =
-      let pad : (8 - length f % 8) % 8 ≡ pad_size e.answer = omega (arith, long, pad_small e.answer) in
+      let pad : (8 - length f % 8) % 8 ≡ pad_size e.answer = omega (arith, long, pad_most e.answer) in
       let u : unpack bytes ≡ entry_bits e = row ∙ (ap (λ (k : ℕ). f ++ bits k 0) pad ∙ whole) in
       packed_is (size_of e) bytes (entry_bits e) small (omega (arith, length_unpack bytes, ap length u, length_entry_bits e)) u
 
