@@ -7,6 +7,9 @@ use answer::Refusal;
 use arrayvec::ArrayVec;
 use formula::Formula;
 
+/// The longest list that is compared.
+const LONGEST: usize = 64;
+
 /// Tells whether one list of clauses implies another, two bytes a clause, high byte first.
 pub fn yard_compare(first: &[u8], second: &[u8]) -> u32
     ensures answer { result ≡ code_of (compared first.now second.now) }
@@ -50,10 +53,10 @@ fn formula_from(bytes: &[u8]) -> Result<Formula, Refusal>
     if !odd.is_empty() {
         return Err(Refusal::Missing);
     }
-    if pairs.len() > 64 {
+    if pairs.len() > LONGEST {
         return Err(Refusal::LongList);
     }
-    let mut clauses = ArrayVec::<u16, 64>::new();
+    let mut clauses = ArrayVec::<u16, LONGEST>::new();
     for &pair in pairs {
         clauses.push(u16::from_be_bytes(pair));
     }

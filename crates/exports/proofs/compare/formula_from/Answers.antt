@@ -11,8 +11,8 @@ use Rattle.exports.proofs.compare.formula_from.Goals as goal
 even : (bytes : List ℕ) (n : ℕ) → n ≡ length bytes % 2 → eqb n 0 ≡ true → reduces (clauses_from bytes) ≡ formula_from bytes
 even bytes n e z = sym (cond-true (evenly bytes) (reduces (clauses_from bytes)) (refused 19 []) (ap (λ m. eqb m 0) (sym e) ∙ z))
 
-pub returns-then-pairs-gt64 : goal.returns-then-pairs-gt64
-returns-then-pairs-gt64 c =
+pub returns-then-pairs-gt-LONGEST : goal.returns-then-pairs-gt-LONGEST
+returns-then-pairs-gt-LONGEST c =
     let bytes = c.args.bytes.now in
     sym (cond-false (leb (length (clauses_from bytes)) 64) _ (refused 1 []) (lt-leb (length (clauses_from bytes)) 64 (omega (arith, length_clauses bytes))))
     ∙ even bytes _ c.as_chunks.ensures.back_len (sym c.is_empty.ensures ∙ c.if-not-is_empty.false)
