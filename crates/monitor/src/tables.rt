@@ -35,15 +35,12 @@ impl<const N: usize> Table<N> {
     }
 
     /// What the place holds, if there is a place of that number.
-    pub(crate) fn get(&self, number: u64) -> Result<Option<Held>, Refusal>
+    pub(crate) fn get(&self, number: u64) -> Result<&Option<Held>, Refusal>
         ensures { MatchResult result
-            (λ held. (number < N) × (place_of held ≡ slice_index_or (places self.now) number vacant))
+            (λ held. (number < N) × (place_of held.now ≡ slice_index_or (places self.now) number vacant))
             (λ q. (N ≤ number) × (q ≡ NoSuchNumber)) }
     {
-        self.slots
-            .get(number as usize)
-            .copied()
-            .ok_or(Refusal::NoSuchNumber)
+        self.slots.get(number as usize).ok_or(Refusal::NoSuchNumber)
     }
 
     pub(crate) fn set(&mut self, number: u64, held: Option<Held>)

@@ -15,6 +15,7 @@ impl Monitor {
             .tables
             .records
             .get(record)?
+            .as_ref()
             .ok_or(Refusal::RecordState)?;
         if held.label.sees(group) {
             Ok(held.figure.cents)
