@@ -27,6 +27,7 @@ fn main(rt: HostRuntime) -> anyhow::Result<()> {
 
 /// The bytes that the writer makes of an entry, in hexadecimal digits.
 fn written(alloc: Global, entry: &Entry) -> Result<String, AllocError> {
+    // the writer fills what it is lent, and answers where the entry ends
     let mut bytes = [0; 21];
     let end = write_entry(&mut bytes, 0, entry).unwrap_or(0);
     hex::encode(alloc, bytes.get(..end as usize).unwrap_or_default())

@@ -53,6 +53,7 @@ impl<'a> BitsLeft<'a> {
     }
 }
 
+// A function and no `TryFrom`, as a bit has no third value to refuse.
 fn kind_of(bit: u16) -> Kind
     ensures { result ≡ kind_of bit }
 {

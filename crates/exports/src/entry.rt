@@ -1,4 +1,5 @@
 /// An entry of the docket, as C has it.
+// C has neither enums with values nor slices: so numbers, and an array with a count.
 #[repr(C)]
 #[derive(Clone, Copy)]
 pub struct YardEntry {

@@ -41,6 +41,7 @@ fn fill(entry: Entry, next: u64) -> YardEntry
     }
 }
 
+// C has no `Result`, so it gets 0 where the call was granted.
 fn question(answer: Result<(), Refusal>) -> u32
     ensures { result ≡ question_of (says nothing answer) }
 {

@@ -9,6 +9,7 @@ use lines::{Call, parse};
 use words::read_formula;
 
 /// What the call was answered, without a figure.
+// A function and no `From`, as it loses the figure.
 fn verdict_of(answer: Answer) -> Result<(), Refusal>
     ensures { says nothing result ≡ verdict (told answer) }
 {

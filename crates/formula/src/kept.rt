@@ -13,6 +13,8 @@ pub use equal::equality_is_meaning;
 
 /// A formula in its kept form: at most eight clauses, rising by number, none containing another.
 /// Unused places hold 0, so that formulas with the same clauses are the same value.
+// An array with a length, as it is passed by value and takes no heap; and no model, whose values would be all lists of
+// clauses, while what is said of every formula holds of kept forms alone.
 #[derive(Clone, Copy, PartialEq, Eq)]
 pub struct Formula {
     clauses: [u16; 8],

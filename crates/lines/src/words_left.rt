@@ -43,6 +43,7 @@ impl<'a> WordsLeft<'a> {
         Some(word)
     }
 
+    // One method for each kind of word: one that takes the reader of a kind as a closure would say no more.
     pub(crate) fn number(&mut self) -> Option<u64>
         ensures { Taken decimal self.old result self.new }
     {

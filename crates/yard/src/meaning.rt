@@ -1,6 +1,7 @@
 use answer::{Denial, Refusal};
 
 /// What a refusal means, in plain words.
+// Each is one text, so there is nothing that a `Display` would put together.
 pub fn meaning(refusal: Refusal) -> &'static str {
     match refusal {
         Refusal::LongList => "the formula has more than 64 clauses",
