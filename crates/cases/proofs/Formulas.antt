@@ -5,7 +5,7 @@ use Rattle.answer.specs.declared.Refusal.{Refusal}
 use Rattle.answer.specs.declared.Answer.TheVariants.{Refused}
 use Rattle.answer.specs.Told.{told, question_of}
 use Rattle.clause.specs.Meaning.{Meets, Means}
-use Rattle.formula.specs.Kept.{Unused, Sixteen}
+use Rattle.formula.specs.Kept.{Behind, Unused, Sixteen}
 use Rattle.cases.specs.Table.{one_two}
 use Rattle.cases.specs.Formulas.{eight, Sized, KeptForms, HeldForms, Shown, Formulas}
 use Rattle.cases.proofs.Apart.{differ}
@@ -43,6 +43,9 @@ kept_forms =
       falling_not = refl;
       truth_kept = refl;
       falling_none = refl;
+      stands_behind = above_both;
+      contains_first = λ b. let h : 1 < 1 = (b 0 0 (lit< tt)).1 in omega arith;
+      below_last = λ b. let h : 4 < 2 = (b 1 0 (lit< tt)).0 in omega arith;
       unused = behind;
       one_unused = λ u. differ {m = 1} {n = 0} refl (u 0 (lit≤ tt));
       two_unused = λ u. differ {m = 2} {n = 0} refl (u 1 (lit≤ tt));
@@ -56,6 +59,11 @@ kept_forms =
       seventeen_behind = λ s. let h : 65536 < 65536 = s 1 in omega arith;
     }
   where
+    above_both : Behind (1 ∷ 2 ∷ []) 4
+    above_both zero d h = (lit< tt, lit< tt)
+    above_both (suc zero) d h = (lit< tt, lit< tt)
+    above_both (suc (suc k)) d h = absurd (omega arith)
+
     behind : Unused (1 ∷ 0 ∷ []) 1
     behind zero h = absurd (omega arith)
     behind (suc zero) h = refl

@@ -6,7 +6,7 @@ use Rattle.clause.specs.Meaning.{Meets}
 use Rattle.clause.specs.Reduced.{reduced}
 use Rattle.formula.specs.declared.kept.Formula.{Formula}
 use Rattle.formula.specs.declared.party.Party.{Party}
-use Rattle.formula.specs.Kept.{Unused, Rising, Apart, Sixteen}
+use Rattle.formula.specs.Kept.{Behind, Unused, Rising, Apart, Sixteen}
 use Rattle.formula.specs.Of.{clauses_of}
 use Rattle.formula.specs.Party.{alone, PartyOf}
 use Rattle.formula.specs.Forms.{fits, fitting, reduces, both, either, Formed}
@@ -49,6 +49,10 @@ pub record KeptForms : Type 0 where
   pub falling_not : kept (2 ∷ 1 ∷ []) ≡ false
   pub truth_kept : keeping [] ≡ Some []
   pub falling_none : keeping (2 ∷ 1 ∷ []) ≡ None
+  -- a clause behind others rises above each and contains none
+  pub stands_behind : Behind (1 ∷ 2 ∷ []) 4
+  pub contains_first : Behind (1 ∷ 2 ∷ []) 5 → ⊥
+  pub below_last : Behind (1 ∷ 4 ∷ []) 2 → ⊥
   -- places behind the count hold 0
   pub unused : Unused (1 ∷ 0 ∷ []) 1
   pub one_unused : Unused (1 ∷ 0 ∷ []) 0 → ⊥
