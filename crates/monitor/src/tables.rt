@@ -43,6 +43,7 @@ impl<const N: usize> Table<N> {
         self.slots.get(number as usize).ok_or(Refusal::NoSuchNumber)
     }
 
+    /// Leaves `held` in the place of that number.
     pub(crate) fn set(&mut self, number: u64, held: Option<Held>)
         requires { number < N }
         ensures { places self.new ≡ slice_set (places self.old) number (place_of held) }

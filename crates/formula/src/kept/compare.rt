@@ -4,6 +4,7 @@ ghost use Rattle.formula.specs.Of.{clauses_of};
 
 use super::Formula;
 
+// The fields are cut and `as_slice` is not asked: so the check finds each proof alone.
 impl Formula {
     /// Tells whether `group` shares a party with each clause.
     pub fn meets(self, group: u16) -> bool
