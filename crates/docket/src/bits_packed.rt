@@ -2,13 +2,13 @@ ghost use Rattle.std.specs.Prelude.{◌≡◌, ◌+◌, ◌-◌, ◌%◌, ◌^�
 ghost use Rattle.docket.specs.Bits.{bits, unpack};
 ghost use Rattle.docket.specs.Laws.{Bytes};
 
-use arrayvec::ArrayVec;
+use crate::EntryBytes;
 use std::marker::Model;
 
 /// Bits put one behind another: the bytes that they fill, and those that wait for the next byte.
 #[derive(Drop)]
 pub(crate) struct BitsPacked {
-    bytes: ArrayVec<u8, 21>,
+    bytes: EntryBytes,
     held: u32,
     count: usize,
 }
@@ -30,7 +30,7 @@ impl BitsPacked {
         ensures { result ≡ [] }
     {
         BitsPacked {
-            bytes: ArrayVec::new(),
+            bytes: EntryBytes::new(),
             held: 0,
             count: 0,
         }
@@ -51,7 +51,7 @@ impl BitsPacked {
     }
 
     /// The bytes, with zero bits to the end of the last.
-    pub(crate) fn finish(mut self) -> ArrayVec<u8, 21>
+    pub(crate) fn finish(mut self) -> EntryBytes
         requires { length self ≤ 168 }
         ensures bits { unpack result.items ≡ self ++ bits ((8 - length self % 8) % 8) 0 }
         ensures bytes { Bytes result.items }

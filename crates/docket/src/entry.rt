@@ -1,4 +1,5 @@
 use answer::Refusal;
+use arrayvec::ArrayVec;
 use formula::Formula;
 use label::Kind;
 
@@ -19,3 +20,6 @@ pub struct Found {
     pub entry: Entry,
     pub next: u64,
 }
+
+/// An entry as it stands in the docket: the longest has 21 bytes.
+pub type EntryBytes = ArrayVec<u8, 21>;

@@ -22,6 +22,7 @@ impl<'a> BitsLeft<'a> {
         if self.take(1)? == 1 {
             return Ok(Ok(()));
         }
+        // The questions that an entry can carry are fewer than `Refusal` has, so this is no conversion of its own.
         let refusal = match self.take(5)? {
             5 => Refusal::TaskState,
             6 => Refusal::RecordState,

@@ -53,7 +53,8 @@ impl<'a> BitsLeft<'a> {
     }
 }
 
-// A function and no `TryFrom`, as a bit has no third value to refuse.
+/// The kind that a bit stands for.
+// A bit has no third value that a `TryFrom` could refuse.
 fn kind_of(bit: u16) -> Kind
     ensures { result ≡ kind_of bit }
 {

@@ -5,10 +5,9 @@ ghost use Rattle.docket.specs.Entries.{plain_of, asked, carries, carries_answer,
 ghost use Rattle.docket.specs.Laws.{Sets, values_of, Carried};
 ghost use Rattle.docket.specs.Writing.{next_place, packing, writing, written, ReadsBack};
 
-use crate::Entry;
 use crate::bits_packed::BitsPacked;
+use crate::{Entry, EntryBytes};
 use answer::Refusal;
-use arrayvec::ArrayVec;
 use formula::Formula;
 
 /// Writes an entry at a place, and answers the next place.
@@ -27,7 +26,7 @@ pub fn write_entry(bytes: &mut [u8], place: u64, item: &Entry) -> Result<u64, Re
 }
 
 /// The bytes of an entry that the docket can carry.
-pub fn entry_bytes(item: &Entry) -> Result<ArrayVec<u8, 21>, Refusal>
+pub fn entry_bytes(item: &Entry) -> Result<EntryBytes, Refusal>
     ensures answer { says (λ bytes. bytes.items) result ≡ packing (plain_of item.entry.now) }
     ensures carried { IfOk result (λ _. Carried (plain_of item.entry.now)) }
 {

@@ -4,11 +4,10 @@ ghost use Rattle.filing.specs.Filing.{line_bytes};
 
 use crate::entry::entry_of;
 use answer::Answer;
-use arrayvec::ArrayVec;
-use docket::entry_bytes;
+use docket::{EntryBytes, entry_bytes};
 
 /// What the line, answered so, leaves in the docket: the bytes of an entry that the docket can carry, or none.
-pub fn file_line(line: &[u8], answer: Answer) -> ArrayVec<u8, 21>
+pub fn file_line(line: &[u8], answer: Answer) -> EntryBytes
     ensures { result.items ≡ line_bytes line.now (told answer) }
 {
     entry_of(line, answer)
