@@ -62,7 +62,7 @@ pub enum Refusal {
 }
 
 /// What a call answers.
-// An enum beside `Result<Option<u32>, Refusal>`, as it is printed: std's `Display` is for no `Result` here.
+// Three outcomes by name, each with its row in the one table of answers; std's `Display` could not be for a `Result`.
 #[derive(Clone, Copy)]
 pub enum Answer {
     /// The call is done.

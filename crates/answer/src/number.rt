@@ -20,8 +20,8 @@ impl Denial {
 }
 
 impl Refusal {
-    // By name and not by `From`: a refusal is no number, it has one, and may have a group.
     /// The number of the question that had the answer no.
+    // By name and not by `From`, as `group` is: a number alone does not say what was refused.
     pub fn number(self) -> u8
         ensures { result ≡ question_of (told (Refused self)) }
     {

@@ -3,15 +3,6 @@ use Rattle.std.proofs.Common.{◌≡◌, ℕ, zero, suc, ◌+◌, ◌<◌, Bool,
 use Rattle.std.proofs.lemmas.Option.{none-some}
 use Rattle.clause.specs.Groups.{least, next_least}
 
--- one number more, at which p fails
-pub least_more : (p : ℕ → Bool) (n : ℕ) → least p n ≡ None → p n ≡ false → least p (n + 1) ≡ None
-unfolding least
-least_more p n e h = rw add-one (rw (e, h) refl)
-
-pub least_start : (p : ℕ → Bool) → least p 0 ≡ None
-unfolding least
-least_start p = refl
-
 last_or_below : (g n : ℕ) → g < suc n → (g ≡ n) ⊎ (g < n)
 last_or_below g n h = eq-or-lt_of_le (le_of_suc-le-suc h)
 

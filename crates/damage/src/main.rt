@@ -1,5 +1,6 @@
 //! Reads damaged dockets, a line of hexadecimal digits each, and prints what the docket's reader says
-//! stands at their start, and the bytes that the writer makes of an entry that it found. The expected text comes from another decoder: see tools/damage.
+//! stands at their start, and the bytes that the writer makes of an entry that it found. The expected
+//! text comes from another decoder: see tools/damage.
 #![tactic(auto)]
 
 ghost use Rattle.std.specs.Prelude.{◌<◌};
@@ -49,7 +50,7 @@ fn digit(c: u8) -> u8
 
 /// The bytes that the writer makes of an entry, in hexadecimal digits.
 fn written(alloc: Global, entry: &Entry) -> Result<String, AllocError> {
-    // the writer fills what it is lent, and answers where the entry ends
+    // `write_entry` is what is tried here: it fills what it is lent, and answers where the entry ends
     let mut bytes = [0; 21];
     let end = write_entry(&mut bytes, 0, entry).unwrap_or(0);
     hex::encode(alloc, bytes.get(..end as usize).unwrap_or_default())

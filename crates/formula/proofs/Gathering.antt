@@ -15,11 +15,6 @@ pub formed_as : (list : List ℕ) (P : ℕ → Type 0) (r : Result Formula Refus
 formed_as list P (Ok f) m h = means_through list _ P m h
 formed_as list P (Err q) m h = λ two ys short n. h two ys short (means_back list ys P m n)
 
-pub more_mapped : (items front xs : List ℕ) (x i : ℕ) → i < length xs → items ≡ front ++ map (bit_or x) (take i xs) → items ++ bit_or x (get_or xs i 0) ∷ [] ≡ front ++ map (bit_or x) (take (i + 1) xs)
-more_mapped items front xs x i h e =
-    ap (λ l. l ++ bit_or x (get_or xs i 0) ∷ []) e ∙ append_assoc front (map (bit_or x) (take i xs)) (bit_or x (get_or xs i 0) ∷ [])
-    ∙ ap (λ l. front ++ l) (sym (ap (map (bit_or x)) (take_more xs i 0 h) ∙ map-append (bit_or x) (take i xs) (get_or xs i 0 ∷ [])))
-
 pub more_rows : (items xs ys : List ℕ) (i j : ℕ) → i < length xs → length ys ≤ j → items ≡ unions (take i xs) ys ++ map (bit_or (get_or xs i 0)) (take j ys) → items ≡ unions (take (i + 1) xs) ys
 more_rows items xs ys i j h l e =
     e ∙ ap (λ t. unions (take i xs) ys ++ map (bit_or (get_or xs i 0)) t) (take_all j ys l)

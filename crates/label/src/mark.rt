@@ -31,6 +31,7 @@ pub trait Join: Compare + Sized {
     /// Whether a mark of these numbers keeps to the size stated for its kind.
     ghost fits: { List ℕ → Bool };
 
+    // A rule of the project: a join fills a lent place and answers a plain `Result`.
     /// Fills `out` with the joined mark. A refusal leaves `out` as it was, and comes only where the
     /// joined mark passes its size: no mark of this kind touches exactly those that either touches.
     fn join(&self, other: &Self, out: &mut Self) -> Result<(), Refusal>

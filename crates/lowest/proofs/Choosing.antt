@@ -52,9 +52,6 @@ pub record MissingIn (missed needs more : List ℕ) (i : ℕ) (g : ℕ) : Type 0
   pub misses : bit_and (get_or missed place 0) g ≡ 0
 
 module _ (missed needs more : List ℕ) where
-  pub missing_none : First (MissingIn missed needs more 0) None
-  missing_none g h m = omega (arith, m.early)
-
   pub missing_more : (i : ℕ) → get_or missed i 0 < 65536 → (a b : Option ℕ) → First (MissingIn missed needs more i) a → First (Fitting (65535 - get_or missed i 0) needs more) b → First (MissingIn missed needs more (i + 1)) (earlier a b)
   missing_more i fits a b f s =
       let c : ℕ = get_or missed i 0 in

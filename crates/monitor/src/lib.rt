@@ -6,3 +6,4 @@ mod monitor;
 mod tables;
 
 pub use monitor::Monitor;
+pub use tables::figures_are_bounded;

@@ -1,7 +1,7 @@
 ghost use Rattle.std.specs.Prelude.{◌≡◌, ◌<◌, ◌≤◌, replicate, slice_index_or, slice_set, MatchResult};
 ghost use Rattle.answer.specs.declared.Refusal.TheVariants.{NoSuchNumber};
 ghost use Rattle.rules.specs.State.{blank, vacant};
-ghost use Rattle.monitor.specs.View.{view, place_of, places};
+ghost use Rattle.monitor.specs.View.{view, place_of, places, FiguresBounded};
 
 use crate::figure::Figure;
 use answer::Refusal;
@@ -51,6 +51,11 @@ impl<const N: usize> Table<N> {
         self.slots[number as usize] = held;
     }
 }
+
+/// Whatever a monitor holds, each figure is at most 999,999,999 cents.
+pub fn figures_are_bounded()
+    ensures { FiguresBounded }
+{}
 
 /// All records and tasks.
 #[derive(Clone, Copy)]

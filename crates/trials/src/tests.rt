@@ -77,9 +77,7 @@ fn implying(rt: HostRuntime) -> Result<(), Fail> {
     let or = one.or(two).map_err(|_| Fail::new("or"))?;
     assert!(rt; and == both);
     assert!(rt; or == either);
-    let Ok(party) = Party::try_from(1) else {
-        return Err(Fail::new("no party"));
-    };
+    let party = Party::try_from(1).map_err(|_| Fail::new("no party"))?;
     assert!(rt; Formula::one_party(party) == two);
     Ok(())
 }

@@ -10,7 +10,7 @@ fn digit(byte: u8) -> Option<u32>
 }
 
 /// The number that 1 to 10 decimal digits write.
-// By hand, as `parse` takes a plus sign too, and any number of digits.
+// By hand, as `parse` takes a plus sign too.
 pub fn number(word: &[u8]) -> Option<u64>
     ensures { result ≡ decimal word.now }
 {

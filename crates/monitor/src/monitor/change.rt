@@ -12,7 +12,7 @@ use formula::Formula;
 use key::{Key, Request};
 use label::Kind;
 
-// Calls take their arguments one by one, in the order of a line, as a caller may have them from anywhere.
+// A rule of the project: each call is a method that takes its arguments one by one. These two share one function.
 impl Monitor {
     /// Replaces the record's sight formula, if the key grants it.
     pub fn release<K: Key>(
