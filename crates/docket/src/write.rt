@@ -1,7 +1,7 @@
 ghost use Rattle.std.specs.Prelude.{◌≡◌, ◌≤◌, ◌++◌, true, length, IfOk};
 ghost use Rattle.answer.specs.Told.{says, nothing};
 ghost use Rattle.formula.specs.Of.{clauses_of};
-ghost use Rattle.docket.specs.Entries.{plain_of, asked, carries, carries_answer, answer_bits, formula_bits};
+ghost use Rattle.docket.specs.Entries.{plain_of, carries, carries_answer, answer_bits, formula_bits};
 ghost use Rattle.docket.specs.Laws.{Sets, values_of, Carried};
 ghost use Rattle.docket.specs.Writing.{next_place, packing, writing, written, ReadsBack};
 
@@ -42,27 +42,21 @@ pub fn entry_bytes(item: &Entry) -> Result<EntryBytes, Refusal>
     Ok(bits.finish())
 }
 
-/// Can the docket carry each field?
+/// Tells whether the docket can carry each field.
 fn is_carried(item: &Entry) -> bool
     ensures { result ≡ carries (plain_of item.entry.now) }
 {
     item.task < 8 && item.record < 64 && is_carried_answer(item.answer)
 }
 
+/// Tells whether the answer is one that a release or an endorsement can get.
 fn is_carried_answer(answer: Result<(), Refusal>) -> bool
     ensures { result ≡ carries_answer (says nothing answer) }
 {
-    match answer {
-        Ok(()) => true,
-        Err(refusal) => is_asked(refusal.number()),
-    }
-}
-
-/// Is this a question that an entry can carry?
-fn is_asked(question: u8) -> bool
-    ensures { result ≡ asked question }
-{
-    matches!(question, 5 | 6 | 12..=16)
+    matches!(
+        answer,
+        Ok(()) | Err(Refusal::TaskState | Refusal::RecordState | Refusal::Denied(_))
+    )
 }
 
 impl BitsPacked {
