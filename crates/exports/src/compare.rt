@@ -53,12 +53,11 @@ fn formula_from(bytes: &[u8]) -> Result<Formula, Refusal>
     if !odd.is_empty() {
         return Err(Refusal::Missing);
     }
-    if pairs.len() > LONGEST {
-        return Err(Refusal::LongList);
-    }
     let mut clauses = ArrayVec::<u16, LONGEST>::new();
     for &pair in pairs {
-        clauses.push(u16::from_be_bytes(pair));
+        clauses
+            .try_push(u16::from_be_bytes(pair))
+            .map_err(|_| Refusal::LongList)?;
     }
     Formula::reduce(clauses.as_slice())
 }

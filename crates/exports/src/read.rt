@@ -7,7 +7,7 @@ ghost use Rattle.exports.specs.Entries.{group_in, filled, padded, read_code, lef
 
 use crate::YardEntry;
 use answer::Refusal;
-use docket::{Entry, Found};
+use docket::Found;
 use formula::Formula;
 
 /// Reads what stands at a place of the docket, and fills `out` where that is an entry.
@@ -17,8 +17,8 @@ pub fn yard_read_entry(bytes: &[u8], place: u64, out: &mut YardEntry) -> u32
 {
     // C has no enums with values, so it gets a number for each outcome.
     match docket::read_entry(bytes, place) {
-        Ok(Some(Found { entry, next })) => {
-            *out = fill(entry, next);
+        Ok(Some(found)) => {
+            *out = YardEntry::from(found);
             0
         }
         Ok(None) => 1,
@@ -26,18 +26,21 @@ pub fn yard_read_entry(bytes: &[u8], place: u64, out: &mut YardEntry) -> u32
     }
 }
 
-fn fill(entry: Entry, next: u64) -> YardEntry
-    ensures { result ≡ filled (plain_of entry) next }
-{
-    YardEntry {
-        kind: u32::from(u16::from(entry.kind)),
-        question: question(entry.answer),
-        task: entry.task,
-        record: entry.record,
-        next,
-        group: group(entry.answer),
-        count: entry.new.as_slice().len() as u16,
-        clauses: clauses(entry.new),
+impl From<Found> for YardEntry {
+    ghost from_gives = { λ found e. e ≡ filled (plain_of found.entry) found.next };
+
+    fn from(found: Found) -> YardEntry {
+        let Found { entry, next } = found;
+        YardEntry {
+            kind: u32::from(u16::from(entry.kind)),
+            question: question(entry.answer),
+            task: entry.task,
+            record: entry.record,
+            next,
+            group: group(entry.answer),
+            count: entry.new.as_slice().len() as u16,
+            clauses: clauses(entry.new),
+        }
     }
 }
 
