@@ -15,16 +15,14 @@ pub fn read_entry(bytes: &[u8], place: u64) -> Result<Option<Found>, Refusal>
     ensures written { WasWritten bytes.now place (standing result) }
     ensures laws { DocketLaws }
 {
-    let len = bytes.len();
-    if place > len as u64 {
-        return Err(Refusal::Missing);
-    }
-    if place == len as u64 {
-        return Ok(None);
-    }
-    let mut bits = BitsLeft::new(&bytes[place as usize..]);
+    let rest = match bytes.get(place as usize..) {
+        None => return Err(Refusal::Missing),
+        Some([]) => return Ok(None),
+        Some(rest) => rest,
+    };
+    let mut bits = BitsLeft::new(rest);
     let entry = bits.entry()?;
-    let next = (len - bits.whole_bytes()) as u64;
+    let next = (bytes.len() - bits.whole_bytes()) as u64;
     Ok(Some(Found { entry, next }))
 }
 
