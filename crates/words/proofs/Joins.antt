@@ -3,7 +3,7 @@ use Rattle.std.proofs.Common.{◌≡◌, ℕ, zero, suc, Bool, true, false, eqb,
 use Rattle.std.specs.List.{join_with_byte}
 use Rattle.std.proofs.lemmas.Bool.{eqb-false, cond-true, cond-false}
 use Rattle.std.proofs.lemmas.List.Splits.{join_with_byte-slice_split}
-use Rattle.words.specs.Parted.{parted, before, joined, Without, AllWithout, PartsJoin}
+use Rattle.words.specs.Parted.{parted, before, joined, Without, AllWithout}
 use Rattle.words.proofs.Parts.{parted_is}
 
 joined_is : (sep : ℕ) (ws : List (List ℕ)) → joined sep ws ≡ join_with_byte sep ws
@@ -22,7 +22,7 @@ all_before : (sep b : ℕ) (ws : List (List ℕ)) → (b ≡ sep → ⊥) → Al
 all_before sep b [] h a = (without_cons sep b [] h (without_nil sep), tt)
 all_before sep b (w ∷ ws) h a = (without_cons sep b w h a.0, a.1)
 
-all_without : (sep : ℕ) (bs : List ℕ) → AllWithout sep (parted sep bs)
+pub all_without : (sep : ℕ) (bs : List ℕ) → AllWithout sep (parted sep bs)
 all_without sep [] = (without_nil sep, tt)
 all_without sep (b ∷ bs) = go (all_without sep bs) (eqb b sep) refl
   where
@@ -31,6 +31,6 @@ all_without sep (b ∷ bs) = go (all_without sep bs) (eqb b sep) refl
     go ih false p =
         subst (AllWithout sep) (sym (cond-false _ _ _ p)) (all_before sep b (parted sep bs) (eqb-false b sep p) ih)
 
-pub parts_join : PartsJoin
-parts_join sep bs =
-    (joined_is sep (parted sep bs) ∙ (ap (join_with_byte sep) (sym (parted_is sep bs)) ∙ join_with_byte-slice_split sep bs), all_without sep bs)
+pub joins_parts : (sep : ℕ) (bs : List ℕ) → joined sep (parted sep bs) ≡ bs
+joins_parts sep bs =
+    joined_is sep (parted sep bs) ∙ (ap (join_with_byte sep) (sym (parted_is sep bs)) ∙ join_with_byte-slice_split sep bs)

@@ -1,7 +1,8 @@
 ghost use Rattle.std.specs.Prelude.{◌≡◌, is_some};
+ghost use Rattle.std.specs.Option.{option_map};
 ghost use Rattle.words.specs.Parted.{parted};
 ghost use Rattle.words.specs.Clauses.{hex_all, or_none};
-ghost use Rattle.words.specs.Formulas.{formula_of, written, written_in};
+ghost use Rattle.words.specs.Formulas.{clauses_in, formula_of, written, written_in};
 
 use super::{ClausesWord, FormulaWord};
 use crate::hex_four;
@@ -14,26 +15,36 @@ fn is_clauses(word: &[u8]) -> bool
         .all(|part| hex_four(part).is_some())
 }
 
-impl<'a> FormulaWord<'a> {
-    /// The clauses of any part of a line; a part that writes none counts as True.
-    pub fn of_part(part: &'a [u8]) -> FormulaWord<'a>
-        ensures { written result ≡ or_none (hex_all (parted 46 part.now)) }
+impl<'a> ClausesWord<'a> {
+    /// The part, if clauses stand there.
+    fn new(part: &'a [u8]) -> Option<ClausesWord<'a>>
+        ensures { option_map clauses_in result ≡ hex_all (parted 46 part.now) }
     {
         if is_clauses(part) {
-            FormulaWord::Clauses(ClausesWord { part })
+            Some(ClausesWord { part })
         } else {
-            FormulaWord::True
+            None
         }
     }
 }
 
+impl<'a> FormulaWord<'a> {
+    /// The clauses of any part of a line, for `read_formula`; a part that writes none counts as True.
+    // Public, as any part can be read so: clauses stand in a `ClausesWord` by its type, and only this crate makes one.
+    pub fn of_part(part: &'a [u8]) -> FormulaWord<'a>
+        ensures { written result ≡ or_none (hex_all (parted 46 part.now)) }
+    {
+        ClausesWord::new(part).map_or(FormulaWord::True, FormulaWord::Clauses)
+    }
+}
+
 /// The word as a formula, if it writes one.
+// A function and no `TryFrom`: its error would say nothing.
 pub fn formula_word(word: &[u8]) -> Option<FormulaWord<'_>>
     ensures { written_in result ≡ formula_of word.now }
 {
     match word {
         [b'T'] => Some(FormulaWord::True),
-        part if is_clauses(part) => Some(FormulaWord::Clauses(ClausesWord { part })),
-        _ => None,
+        part => ClausesWord::new(part).map(FormulaWord::Clauses),
     }
 }
