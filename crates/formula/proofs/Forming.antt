@@ -44,9 +44,13 @@ formed_fits f xs s means =
     let h : fits (reduced xs) ≡ true = le-leb (length (reduced xs)) 8 (subst (λ (l : List ℕ). length l ≤ 8) is (eight f)) in
     ap (λ (l : List ℕ). granted l) is ∙ sym (cond-true (fits (reduced xs)) (granted (reduced xs)) (refused 2 []) h)
 
--- a formula of chosen clauses means what the list means once no clause of it is left
-pub means_chosen : (f : Formula) (list : List ℕ) → ChosenOf list (clauses_of f) → ((k : ℕ) → k < length list → Over (clauses_of f) (get_or list k 0)) → Means (clauses_of f) (Meets list)
-means_chosen f list ch over = let same = chosen_all list (clauses_of f) ch over in λ g h. (same.1 g h, same.0 g h)
+-- a formula of chosen clauses is the list's once no clause of it is left
+pub formed_all : (f : Formula) (list : List ℕ) → Sixteen list → ChosenOf list (clauses_of f) → (xs : List ℕ) → xs ≡ clauses_of f
+    → ((k : ℕ) → k < length list → Over xs (get_or list k 0)) → (granted (clauses_of f) ≡ fitting (reduced list)) × Means (clauses_of f) (Meets list)
+formed_all f list s ch xs is over =
+    let same = chosen_all list (clauses_of f) ch (λ k h. subst (λ (l : List ℕ). Over l (get_or list k 0)) is (over k h)) in
+    let means : Means (clauses_of f) (Meets list) = λ g h. (same.1 g h, same.0 g h) in
+    (formed_fits f list s means, means)
 
 -- eight that are chosen and one more: no eight clauses mean what the list means
 pub means_crowded : (list xs : List ℕ) (c : ℕ) → Sixteen list → ChosenOf list xs → Least list (length list) xs c → length xs ≡ 8 → (ys : List ℕ) → length ys ≤ 8 → Means ys (Meets list) → ⊥

@@ -34,12 +34,16 @@ impl Formula {
             return Ok(Formula::of_clause(*clause));
         }
         let mut formula = Formula::truth();
-        while let Some(clause) = clause::least_beside(list, formula.as_slice()) {
-            if formula.is_full() {
-                return Err(Refusal::LargeFormula);
-            }
+        // counted, for speed: the compiler then unrolls the search
+        for _chosen in 0..8usize {
+            let Some(clause) = clause::least_beside(list, formula.as_slice()) else {
+                return Ok(formula);
+            };
             formula.push(clause);
         }
-        Ok(formula)
+        match clause::least_beside(list, formula.as_slice()) {
+            None => Ok(formula),
+            Some(_) => Err(Refusal::LargeFormula),
+        }
     }
 }
