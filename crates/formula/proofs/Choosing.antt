@@ -1,15 +1,14 @@
 -- Clauses chosen one by one, as a formula holds them.
-use Rattle.std.proofs.Common.{◌≡◌, ℕ, ◌+◌, ◌<◌, ◌≤◌, List, [], ◌∷◌, ◌++◌, length, get_or, sym, ap, ◌∙◌, refl, subst, inl, inr, arith, length-take, length-append, Fits}
-use lib.Bits.{bit_and}
+use Rattle.std.proofs.Common.{◌≡◌, ℕ, ◌+◌, ◌<◌, ◌≤◌, List, [], ◌∷◌, ◌++◌, length, get_or, take, set, sym, ap, ◌∙◌, refl, subst, inl, inr, arith, length-take, length-append, Fits}
 use Rattle.std.proofs.lemmas.Bool.{cases_lt}
-use Rattle.std.proofs.lemmas.List.{get_or-take, get_or_past, get_or_default, get_or_append_left, get_or-append-add}
+use Rattle.std.proofs.lemmas.List.{get_or-set_other, get_or-take, get_or_past, get_or_append_left, get_or-append-add}
 use Rattle.clause.specs.Meaning.{Alike}
 use Rattle.clause.specs.Parts.{Over, Least}
 use Rattle.clause.proofs.Reducing.{Chosen, chosen_more, none_shorter, chosen_alike}
 use Rattle.clause.proofs.Canonical.{KeptForm}
 use Rattle.std.specs.Int.{w16}
 use Rattle.formula.specs.declared.kept.Formula.{Formula}
-use Rattle.formula.specs.Kept.{Beside, Behind, Sixteen}
+use Rattle.formula.specs.Kept.{Unused, Rising, Apart, Sixteen}
 use Rattle.formula.specs.Of.{clauses_of}
 
 -- a formula's clauses are in kept form
@@ -52,14 +51,6 @@ module _ (list xs : List ℕ) (c : ℕ) (fits : Sixteen list) (ch : ChosenOf lis
       (chosen_more list (λ i. get_or xs i 0) (λ i. get_or ys i 0) (length xs) c before last ch found.place found.inside found.is
       (λ i h p. found.beside (i, h, p)) (λ k l f. found.least k l (λ o. f o.0 o.1 o.2)))
 
-  pub chosen_behind : Behind xs c
-  chosen_behind i d h =
-      let a = before i h in
-      let more : length xs < length ys = omega (arith, length-append xs (c ∷ [])) in
-      let rises : get_or xs i 0 < c = omega (arith, a, last, chosen_next.rising i (length xs) h more) in
-      let apart : bit_and (get_or xs i 0) c < get_or xs i 0 = simp (a, last) at (chosen_next.apart i (length xs) h more) in
-      subst (λ (b : ℕ). Beside b c) (get_or_default xs i 0 d h) (rises, apart)
-
   pub crowded : length xs ≡ 8 → (zs : List ℕ) → length zs ≤ 8 → Alike list zs → ⊥
   crowded e zs short = none_shorter list zs fits (λ i. get_or ys i 0) (length ys) chosen_next (omega (arith, length-append xs (c ∷ [])))
 
@@ -70,3 +61,37 @@ chosen_all list xs ch over = chosen_alike list xs (λ i. get_or xs i 0) (length 
 -- what the check knows of a list of clauses
 pub fits_sixteen : (xs : List ℕ) → ((i : ℕ) → Fits w16 (get_or xs i 0)) → Sixteen xs
 fits_sixteen xs h i = let fits = h i in omega arith
+
+-- chosen clauses are in kept form
+pub form_chosen : (list xs : List ℕ) → Sixteen list → ChosenOf list xs → KeptForm xs
+form_chosen list xs fits ch =
+    record {
+      sixteen = λ k.
+          elim (cases_lt k (length xs)) [
+            | inl h ↦ let w = ch.from k h in omega (arith, fits w.0, w.2)
+            | inr h ↦ omega (arith, get_or_past xs k 0 h)
+          ];
+      rises = ch.rising;
+      antichain = ch.apart;
+    }
+
+-- the chosen clauses as the first places of an array
+module _ (list clauses : List ℕ) (n : ℕ) (inside : n ≤ length clauses) (unused : Unused clauses n) (fits : Sixteen list) (ch : ChosenOf list (take n clauses)) where
+  place : (k : ℕ) → k < n → (k < length (take n clauses)) × (get_or (take n clauses) k 0 ≡ get_or clauses k 0)
+  place k h = (omega (arith, length-take n clauses), get_or-take n clauses k 0 h)
+
+  pub array_rising : Rising clauses n
+  array_rising i j l h = let p = place i (omega arith) in let q = place j h in omega (arith, p.1, q.1, ch.rising i j l q.0)
+
+  pub array_apart : Apart clauses n
+  array_apart i j l h = let p = place i (omega arith) in let q = place j h in simp (p.1, q.1) at (ch.apart i j l q.0)
+
+  pub array_sixteen : Sixteen clauses
+  array_sixteen k =
+      elim (cases_lt k n) [
+        | inl h ↦ omega (arith, (place k h).1, (form_chosen list (take n clauses) fits ch).sixteen k)
+        | inr h ↦ omega (arith, unused k h)
+      ]
+
+pub still_unused : (clauses : List ℕ) (n c : ℕ) → Unused clauses n → Unused (set clauses n c) (n + 1)
+still_unused clauses n c h i l = get_or-set_other clauses n i c 0 (omega arith) ∙ h i (omega arith)

@@ -10,13 +10,13 @@ use Rattle.clause.specs.Parts.{Over, Least}
 use Rattle.clause.specs.Unions.{unions}
 use Rattle.clause.specs.Reduced.{reduced}
 use Rattle.clause.proofs.Joining.{means_append, means_unions, means_through}
-use Rattle.clause.proofs.Canonical.{canonical}
+use Rattle.clause.proofs.Canonical.{KeptForm, canonical}
 use Rattle.clause.proofs.Reduced.{alike_reduced, form_reduced}
 use Rattle.formula.specs.declared.kept.Formula.{Formula}
 use Rattle.formula.specs.Kept.{Sixteen}
 use Rattle.formula.specs.Of.{clauses_of}
 use Rattle.formula.specs.Forms.{fits, fitting, both, either}
-use Rattle.formula.proofs.Choosing.{form, ChosenOf, chosen_all, crowded}
+use Rattle.formula.proofs.Choosing.{ChosenOf, form_chosen, chosen_all, crowded}
 
 -- a formula has at most eight clauses
 pub eight : (f : Formula) → length (clauses_of f) ≤ 8
@@ -35,22 +35,21 @@ means_either a b = means_reduced (unions a b) _ (means_unions a b)
 means_itself : (xs : List ℕ) → Means xs (Meets xs)
 means_itself xs g l = (λ m. m, λ m. m)
 
--- a formula that means the same as a list has the clauses of the reduced list
-pub formed_fits : (f : Formula) (xs : List ℕ) → Sixteen xs → Means (clauses_of f) (Meets xs) → granted (clauses_of f) ≡ fitting (reduced xs)
-formed_fits f xs s means =
+-- at most eight clauses in kept form that mean the same as a list are the reduced list
+formed_fits : (ys xs : List ℕ) → KeptForm ys → length ys ≤ 8 → Sixteen xs → Means ys (Meets xs) → granted ys ≡ fitting (reduced xs)
+formed_fits ys xs form short s means =
     let m = means_reduced xs (Meets xs) (means_itself xs) in
-    let is : clauses_of f ≡ reduced xs =
-    canonical (clauses_of f) (reduced xs) (form f) (form_reduced xs s) (λ g h k. (m g h).1 ((means g h).0 k), λ g h k. (means g h).1 ((m g h).0 k)) in
-    let h : fits (reduced xs) ≡ true = le-leb (length (reduced xs)) 8 (subst (λ (l : List ℕ). length l ≤ 8) is (eight f)) in
+    let is : ys ≡ reduced xs = canonical ys (reduced xs) form (form_reduced xs s) (λ g h k. (m g h).1 ((means g h).0 k), λ g h k. (means g h).1 ((m g h).0 k)) in
+    let h : fits (reduced xs) ≡ true = le-leb (length (reduced xs)) 8 (subst (λ (l : List ℕ). length l ≤ 8) is short) in
     ap (λ (l : List ℕ). granted l) is ∙ sym (cond-true (fits (reduced xs)) (granted (reduced xs)) (refused 2 []) h)
 
--- a formula of chosen clauses is the list's once no clause of it is left
-pub formed_all : (f : Formula) (list : List ℕ) → Sixteen list → ChosenOf list (clauses_of f) → (xs : List ℕ) → xs ≡ clauses_of f
-    → ((k : ℕ) → k < length list → Over xs (get_or list k 0)) → (granted (clauses_of f) ≡ fitting (reduced list)) × Means (clauses_of f) (Meets list)
-formed_all f list s ch xs is over =
-    let same = chosen_all list (clauses_of f) ch (λ k h. subst (λ (l : List ℕ). Over l (get_or list k 0)) is (over k h)) in
-    let means : Means (clauses_of f) (Meets list) = λ g h. (same.1 g h, same.0 g h) in
-    (formed_fits f list s means, means)
+-- at most eight chosen clauses are the list's once no clause of it is left
+pub formed_all : (list xs : List ℕ) → Sixteen list → ChosenOf list xs → length xs ≤ 8 → ((k : ℕ) → k < length list → Over xs (get_or list k 0))
+    → (granted xs ≡ fitting (reduced list)) × Means xs (Meets list)
+formed_all list xs s ch short over =
+    let same = chosen_all list xs ch over in
+    let means : Means xs (Meets list) = λ g h. (same.1 g h, same.0 g h) in
+    (formed_fits xs list (form_chosen list xs s ch) short s means, means)
 
 -- eight that are chosen and one more: no eight clauses mean what the list means
 pub means_crowded : (list xs : List ℕ) (c : ℕ) → Sixteen list → ChosenOf list xs → Least list (length list) xs c → length xs ≡ 8 → (ys : List ℕ) → length ys ≤ 8 → Means ys (Meets list) → ⊥

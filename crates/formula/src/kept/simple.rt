@@ -10,7 +10,6 @@ use crate::Party;
 
 impl Formula {
     /// True: no clauses, so that every group meets it.
-    #[inline(always)]
     pub fn truth() -> Formula
         ensures clauses { clauses_of result ≡ [] }
         ensures means { Means (clauses_of result) (λ _. Unit {0}) }
@@ -48,7 +47,6 @@ impl Formula {
     }
 
     /// Tells whether there is room for no more clauses.
-    #[inline(always)]
     pub(super) fn is_full(&self) -> bool
         ensures { result ≡ (length (clauses_of self.now) == 8) }
     {
@@ -56,7 +54,6 @@ impl Formula {
     }
 
     /// Adds a clause behind those in use.
-    #[inline(always)]
     pub(super) fn push(&mut self, clause: u16)
         requires room { length (clauses_of self.old) < 8 }
         requires behind { Behind (clauses_of self.old) clause }
@@ -67,7 +64,6 @@ impl Formula {
     }
 
     /// The clauses in use.
-    #[inline(always)]
     pub fn as_slice(&self) -> &[u16]
         ensures is { result.now ≡ clauses_of self.now }
         ensures small { length result.now ≤ 8 }

@@ -1,40 +1,45 @@
-use Rattle.std.proofs.Common.{List, ℕ, length, Some, sym, subst, ap, ◌∙◌, arith, length-append}
-use Rattle.clause.specs.Parts.{Found}
-use Rattle.formula.specs.Of.{clauses_of}
-use Rattle.formula.proofs.Choosing.{ChosenOf, chosen_next, chosen_behind, fits_sixteen}
+use Rattle.std.proofs.Common.{◌≤◌, length, take, sym, ◌∙◌, subst, arith, length-set, length-take}
+use Rattle.std.proofs.lemmas.List.{take_more_set}
+use Rattle.formula.proofs.Choosing.{ChosenOf, chosen_next, fits_sixteen, array_rising, array_apart, array_sixteen, still_unused}
 use Rattle.formula.proofs.Forming.{formed_all, formed_large, means_crowded}
 use Rattle.formula.proofs.kept.Formula.shrink.Goals as goal
 
-pub returns-in_default-least_beside : goal.returns-in_default-least_beside
-returns-in_default-least_beside c =
-    let f = formed_all c.loop-chosen.formula c.args.list.now (fits_sixteen _ c.type_inv.list) c.loop-chosen.invariant.0 _ c.as_slice.ensures.is c.in_default-least_beside.ensures in
-    record { answer = f.0; means = f.1 }
-
-pub push-requires-clause-behind : goal.push-requires-clause-behind
-push-requires-clause-behind c =
+pub returns-then-count-eq8 : goal.returns-then-count-eq8
+returns-then-count-eq8 c =
     let list = c.args.list.now in
-    chosen_behind list (clauses_of c.loop-chosen.formula) c.in-Some.clause (fits_sixteen _ c.type_inv.list) c.loop-chosen.invariant.0
-    (subst (λ (l : List ℕ). Found list (length list) l (Some c.in-Some.clause)) c.as_slice.ensures.is c.in-Some.ensures)
+    let l = c.loop-clause in
+    let none = means_crowded list (take l.count l.clauses) c.in-Some.clause (fits_sixteen _ c.type_inv.list) l.invariant.3 c.in-Some.ensures
+    (omega (arith, length-take l.count l.clauses, l.invariant.0, c.if-count-eq8.true)) in
+    record { answer = formed_large list none; means = λ _. none }
 
-pub loop-chosen-preserved : goal.loop-chosen-preserved
-loop-chosen-preserved c =
+pub loop-clause-preserved : goal.loop-clause-preserved
+loop-clause-preserved c =
     let list = c.args.list.now in
-    let xs = clauses_of c.loop-chosen.formula in (
-      subst (ChosenOf list) (sym c.push.ensures)
-          (chosen_next list xs c.in-Some.clause (fits_sixteen _ c.type_inv.list) c.loop-chosen.invariant.0
-          (subst (λ (l : List ℕ). Found list (length list) l (Some c.in-Some.clause)) c.as_slice.ensures.is c.in-Some.ensures)),
-      ap length c.push.ensures ∙ length-append xs _ ∙ omega (arith, c.loop-chosen.invariant.1),
+    let l = c.loop-clause in (
+      length-set _ _ _ ∙ l.invariant.0,
+      omega arith,
+      still_unused _ _ _ l.invariant.2,
+      subst (ChosenOf list) (sym (take_more_set l.clauses l.count c.in-Some.clause (omega (arith, l.invariant.0))))
+          (chosen_next list (take l.count l.clauses) c.in-Some.clause (fits_sixteen _ c.type_inv.list) l.invariant.3 c.in-Some.ensures),
     )
 
-pub returns-in-None : goal.returns-in-None
-returns-in-None c =
-    let f = formed_all c.loop-chosen.formula c.args.list.now (fits_sixteen _ c.type_inv.list) c.loop-chosen.invariant.0 _ c.as_slice-2.ensures.is c.in-None.ensures in
-    record { answer = f.0; means = f.1 }
+pub returns : goal.returns
+returns c =
+    let l = c.loop-clause in
+    let all = formed_all c.args.list.now (take l.count l.clauses) (fits_sixteen _ c.type_inv.list) l.invariant.3 (omega (arith, length-take l.count l.clauses)) c.in_default-least_beside.ensures in
+    record { answer = all.0; means = all.1 }
 
-pub returns-in-Some-least_beside : goal.returns-in-Some-least_beside
-returns-in-Some-least_beside c =
+pub invariant_of-result : goal.invariant_of-result
+invariant_of-result c =
     let list = c.args.list.now in
-    let x = c.in-Some-least_beside.field-0 in
-    let found = subst (λ (l : List ℕ). Found list (length list) l (Some x)) c.as_slice-2.ensures.is c.in-Some-least_beside.ensures in
-    let none = means_crowded list (clauses_of c.loop-chosen.formula) x (fits_sixteen _ c.type_inv.list) c.loop-chosen.invariant.0 found (omega arith) in
-    record { answer = formed_large list none; means = λ _. none }
+    let l = c.loop-clause in
+    let fits = fits_sixteen _ c.type_inv.list in
+    let inside : l.count ≤ length l.clauses = omega (arith, l.invariant.0) in
+    record {
+      eight = l.invariant.0;
+      small = l.invariant.1;
+      unused = l.invariant.2;
+      rising = array_rising list l.clauses l.count inside l.invariant.2 fits l.invariant.3;
+      apart = array_apart list l.clauses l.count inside l.invariant.2 fits l.invariant.3;
+      fits = array_sixteen list l.clauses l.count inside l.invariant.2 fits l.invariant.3;
+    }

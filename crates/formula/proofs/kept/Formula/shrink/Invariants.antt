@@ -1,7 +1,10 @@
-use Rattle.std.proofs.Common.{◌≡◌, length}
-use Rattle.formula.specs.Of.{clauses_of}
+use Rattle.std.proofs.Common.{◌≡◌, ◌-◌, ◌≤◌, length, take}
+use Rattle.formula.specs.Kept.{Unused}
 use Rattle.formula.proofs.Choosing.{ChosenOf}
 use Rattle.formula.proofs.kept.Formula.shrink.Given as goal
 
-abbrev pub invariant-loop-chosen : goal.invariant-loop-chosen
-invariant-loop-chosen l = ChosenOf l.list (clauses_of l.formula) × (length (clauses_of l.formula) ≡ l._chosen)
+abbrev pub invariant-loop-clause : goal.invariant-loop-clause
+invariant-loop-clause l = (length l.clauses ≡ 8) × (l.count ≤ 8) × Unused l.clauses l.count × ChosenOf l.list (take l.count l.clauses)
+
+abbrev pub decreases-loop-clause : goal.decreases-loop-clause
+decreases-loop-clause l = 8 - l.count
