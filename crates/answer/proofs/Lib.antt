@@ -1,2 +1,1 @@
 pub mod Telling
-mod Digits

@@ -3,9 +3,10 @@
 
 mod convert;
 mod number;
+mod numbered;
 mod text;
 
-pub use text::Numbered;
+pub use numbered::Numbered;
 
 /// Why a key does not grant a request.
 #[derive(Clone, Copy)]

@@ -1,45 +1,60 @@
-ghost use Rattle.std.specs.Prelude.{◌≡◌, Some};
+ghost use Rattle.std.specs.Prelude.{◌≡◌, ◌+◌, ◌<◌, ◌≤◌, ◌++◌, Some};
+ghost use Rattle.arrayvec.specs.ArrayString.{array_string_len};
 ghost use Rattle.answer.specs.Told.{told};
-ghost use Rattle.answer.specs.Text.{text, numbered};
+ghost use Rattle.answer.specs.Text.{text, hex_text, hex_digit};
 
 use crate::Answer;
+use arrayvec::ArrayString;
 use itoa::Buffer;
 use std::fmt;
+
+/// The last hexadecimal digit of a number.
+fn hex_digit(n: u16) -> char
+    ensures { result ≡ hex_digit n }
+{
+    char::from_digit(u32::from(n % 16), 16).unwrap()
+}
+
+/// Appends a group, as four hexadecimal digits.
+fn push_group<const N: usize>(text: &mut ArrayString<N>, group: u16)
+    requires { array_string_len text.old + 4 ≤ N }
+    ensures { text.new.bytes ≡ text.old.bytes ++ hex_text group }
+{
+    text.push(hex_digit(group / 4096));
+    text.push(hex_digit(group / 256));
+    text.push(hex_digit(group / 16));
+    text.push(hex_digit(group));
+}
+
+impl Answer {
+    /// What is printed of the answer. The longest is `ok ` and a figure of ten digits.
+    pub fn text(self) -> ArrayString<13>
+        ensures { result.bytes ≡ text (told self) }
+    {
+        let mut text = ArrayString::new();
+        let mut digits = Buffer::new();
+        match self {
+            Answer::Done => text.push_str("ok"),
+            Answer::Figure(figure) => {
+                text.push_str("ok ");
+                text.push_str(digits.format(figure));
+            }
+            Answer::Refused(refusal) => {
+                text.push_str(digits.format(refusal.number()));
+                if let Some(group) = refusal.group() {
+                    text.push_str(" ");
+                    push_group(&mut text, group);
+                }
+            }
+        }
+        text
+    }
+}
 
 impl fmt::Display for Answer {
     ghost output = { λ a. Some (text (told a)) };
 
-    #[tactic(auto, using(crate::proofs::Digits::padded_group))]
     fn fmt<W: fmt::Write>(&self, f: &mut fmt::Formatter<W>) -> fmt::Result {
-        match *self {
-            Answer::Done => write!(f, "ok"),
-            Answer::Figure(figure) => write!(f, "ok {figure}"),
-            Answer::Refused(refusal) => {
-                let question = refusal.number();
-                match refusal.group() {
-                    None => write!(f, "{question}"),
-                    Some(group) => write!(f, "{question} {group:04x}"),
-                }
-            }
-        }
-    }
-}
-
-/// An answer behind the number of its line.
-#[derive(Clone, Copy)]
-pub struct Numbered {
-    pub line: u64,
-    pub answer: Answer,
-}
-
-impl fmt::Display for Numbered {
-    ghost output = { λ n. Some (numbered n.line (told n.answer)) };
-
-    fn fmt<W: fmt::Write>(&self, f: &mut fmt::Formatter<W>) -> fmt::Result {
-        // quicker than `{line}`, and there is one for each line that is answered
-        let mut digits = Buffer::new();
-        f.write_str(digits.format(self.line))?;
-        let answer = self.answer;
-        write!(f, " {answer}")
+        f.write_str(self.text().as_str())
     }
 }

@@ -57,7 +57,7 @@ impl Output {
             line: number,
             answer,
         };
-        write!(self.answers, "{numbered}")?;
+        self.answers.push_str(numbered.text().as_str())?;
         if self.explain
             && let Answer::Refused(refusal) = answer
         {
