@@ -35,7 +35,7 @@ impl<'a> BitsLeft<'a> {
         }
     }
 
-    /// The number that the next `width` bits write.
+    /// Takes the next `width` bits, and gives the number that they write.
     pub(crate) fn take(&mut self, width: usize) -> Result<u16, Refusal>
         requires { width ≤ 16 }
         ensures taken { MatchResult result
@@ -64,7 +64,7 @@ impl<'a> BitsLeft<'a> {
         self.count / 8 + self.bytes.len()
     }
 
-    /// The number that the bits up to the next whole byte write.
+    /// Takes what is left of a byte that is begun, and gives the number that those bits write: 0 where none is begun.
     pub(crate) fn rest_of_byte(&mut self) -> u16
         ensures taken { self.old ≡ bits (length self.old % 8) result ++ self.new }
         ensures small { result < 2 ^ (length self.old % 8) }

@@ -1,8 +1,8 @@
-ghost use Rattle.std.specs.Prelude.{◌≡◌, ◌+◌, ◌-◌, ◌%◌, ◌^◌, ◌<◌, ◌≤◌, [], ◌++◌, length};
+ghost use Rattle.std.specs.Prelude.{◌≡◌, ◌+◌, ◌-◌, ◌*◌, ◌%◌, ◌^◌, ◌<◌, ◌≤◌, [], ◌++◌, length};
 ghost use Rattle.docket.specs.Bits.{bits, unpack};
 ghost use Rattle.docket.specs.Laws.{Bytes};
 
-use crate::EntryBytes;
+use crate::entry::{EntryBytes, LONGEST};
 use std::marker::Model;
 
 /// Bits put one behind another: the bytes that they fill, and those that wait for the next byte.
@@ -38,7 +38,7 @@ impl BitsPacked {
 
     /// Puts the lowest `width` bits of a number.
     pub(crate) fn put(&mut self, width: usize, value: u16)
-        requires { (value < 2 ^ width) × (width ≤ 16) × (length self.old + width ≤ 168) }
+        requires { (value < 2 ^ width) × (width ≤ 16) × (length self.old + width ≤ 8 * LONGEST) }
         ensures { self.new ≡ self.old ++ bits width value }
     {
         self.held = self.held << width | u32::from(value);
@@ -52,7 +52,7 @@ impl BitsPacked {
 
     /// The bytes, with zero bits to the end of the last.
     pub(crate) fn finish(mut self) -> EntryBytes
-        requires { length self ≤ 168 }
+        requires { length self ≤ 8 * LONGEST }
         ensures bits { unpack result.items ≡ self ++ bits ((8 - length self % 8) % 8) 0 }
         ensures bytes { Bytes result.items }
     {

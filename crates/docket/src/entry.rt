@@ -21,5 +21,8 @@ pub struct Found {
     pub next: u64,
 }
 
-/// An entry as it stands in the docket: the longest has 21 bytes.
-pub type EntryBytes = ArrayVec<u8, 21>;
+/// How many bytes the longest entry has.
+pub(crate) const LONGEST: usize = 21;
+
+/// An entry as it stands in the docket.
+pub type EntryBytes = ArrayVec<u8, LONGEST>;

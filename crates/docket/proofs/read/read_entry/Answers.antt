@@ -29,8 +29,11 @@ entry-requires c = omega (arith, ap length c.new-bits.ensures, length_unpack c.i
 
 pub overflow_sub-next : goal.overflow_sub-next
 overflow_sub-next c =
-    omega (arith, sizes c.args.bytes.now c.in-Some.rest.now c.entry.new.self c.args.place c.whole_bytes.result (plain_of c.in_ok-entry.entry) c.in-Some.ensures.lookup.0.2 c.in-Some.len_at_least
-    (sym (ap length c.new-bits.ensures) ∙ c.in_ok-entry.ensures.size) c.whole_bytes.ensures)
+    omega (
+      arith,
+      sizes c.args.bytes.now c.in-Some.rest.now c.entry.new.self c.args.place c.whole_bytes.result (plain_of c.in_ok-entry.entry) c.in-Some.ensures.lookup.0.2 c.in-Some.len_at_least
+          (sym (ap length c.new-bits.ensures) ∙ c.in_ok-entry.ensures.size) c.whole_bytes.ensures,
+    )
 
 pub returns : goal.returns
 returns c =
