@@ -1,6 +1,7 @@
 -- What is read was written.
-use Rattle.std.proofs.Common.{◌≡◌, ℕ, zero, suc, ◌^◌, ◌<◌, Bool, true, false, cond, ◌&&◌, eqb, ltb, leb, List, [], ◌∷◌, ◌++◌, length, take, drop, Ok, Err, sym, refl, ap, ◌∙◌, subst, arith, take-append-drop}
-use Rattle.std.proofs.lemmas.List.{append_assoc, length-take-le}
+use Rattle.std.proofs.Common.{◌≡◌, ℕ, zero, suc, ◌^◌, ◌<◌, ◌≤◌, Bool, true, false, cond, ◌&&◌, eqb, ltb, leb, List, [], ◌∷◌, ◌++◌, length, take, drop, Ok, Err, sym, refl, ap, ◌∙◌, subst, arith, take-append-drop}
+use Rattle.std.proofs.ByRecursion.{All-drop}
+use Rattle.std.proofs.lemmas.List.{append_assoc}
 use Rattle.std.proofs.lemmas.Bool.{eq-eqb, eqb-true, eqb-false, leb-true, lt-ltb, and_from, cond-true, cond-false}
 use Rattle.answer.specs.Told.{Told, granted, refused}
 use Rattle.formula.specs.Keeping.{kept}
@@ -9,10 +10,10 @@ use Rattle.docket.specs.Bits.{bits, number}
 use Rattle.docket.specs.Entries.{Plain, asked, brings, carries_answer, words, answer_bits, formula_bits, pad_size, entry_bits}
 use Rattle.docket.specs.Reading.{Reading, field, lawful, words_at, question_at, answer_at, formula_at, pad_at, kind_of, made, new_at, told_at, record_at, task_at, entry_at}
 use Rattle.docket.specs.Laws.{Sets, values_of, Carried}
-use Rattle.docket.proofs.Numbers.{Bits, Bits-take, Bits-drop, bits_number, number_small}
+use Rattle.docket.proofs.Numbers.{Bits, bits_taken, taken_small}
 
 err_ok : (q : ℕ) (e : Plain) → ◌≡◌ {A = Reading} (Err q) (Ok e) → ⊥
-err_ok q e p = let z : ◌≡◌ {A = ℕ} 0 1 = cc in omega arith
+err_ok q e p = cc
 
 -- what an accepted row begins with: the bits of a value, and behind them bits that are read on
 record Begun {A : Type 0} (row : A → List ℕ) (Fine : A → Type 0) (next : A → List ℕ → Reading) (U : List ℕ) (e : Plain) : Type 0 where
@@ -31,16 +32,13 @@ field_inv w U next e b q = go (leb w (length U)) refl
   where
     go : (x : Bool) → leb w (length U) ≡ x → Begun (bits w) (Below w) next U e
     go true p =
-        let l : length (take w U) ≡ w = length-take-le w U (leb-true w (length U) p) in
-        let t = Bits-take w U b in
+        let enough : w ≤ length U = leb-true w (length U) p in
         record {
           value = number (take w U);
           rest = drop w U;
-          fine = subst (λ (k : ℕ). number (take w U) < 2 ^ k) l (number_small (take w U) t);
-          whole =
-              sym (take-append-drop w U)
-              ∙ ap (λ (x : List ℕ). x ++ drop w U) (sym (subst (λ (k : ℕ). bits k (number (take w U)) ≡ take w U) l (bits_number (take w U) t)));
-          rest_bits = Bits-drop w U b;
+          fine = taken_small w U b enough;
+          whole = sym (take-append-drop w U) ∙ ap (λ (x : List ℕ). x ++ drop w U) (sym (bits_taken w U b enough));
+          rest_bits = All-drop (λ b. b < 2) w U b;
           more = sym (cond-true _ _ _ p) ∙ q;
         }
     go false p = absurd (err_ok 19 e (sym (cond-false _ _ _ p) ∙ q))

@@ -9,7 +9,7 @@ use Rattle.docket.specs.Laws.{Carried, docket_bytes, docket_size, written_all, R
 use Rattle.docket.proofs.Packing.{length_entry}
 use Rattle.docket.proofs.Whole.{docket_reads_back}
 
-pub length_docket : (es : List Plain) → length (docket_bytes es) ≡ docket_size es
+length_docket : (es : List Plain) → length (docket_bytes es) ≡ docket_size es
 length_docket [] = refl
 length_docket (e ∷ es) = omega (arith, length-append (entry_bytes e) (docket_bytes es), length_entry e, length_docket es)
 

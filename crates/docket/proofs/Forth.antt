@@ -25,7 +25,7 @@ words_here (v ∷ vs) rest next s =
     field_here 16 v (words vs ++ rest) (λ v V. words_at (length vs) V (λ vs W. next (v ∷ vs) W)) s.0
     ∙ words_here vs rest (λ vs W. next (v ∷ vs) W) s.1
 
-pub asked_small : (q : ℕ) → asked q ≡ true → q < 32
+asked_small : (q : ℕ) → asked q ≡ true → q < 32
 asked_small q p =
     elim (or_cases (eqb q 5) (eqb q 6 || (leb 12 q && leb q 16)) p) [
       | inl e ↦ omega (arith, eqb-true q 5 e)

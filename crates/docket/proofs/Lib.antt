@@ -5,7 +5,7 @@ mod Placing
 mod Forth
 mod Back
 mod Taking
-pub mod Packing
+mod Packing
 mod Whole
 mod Settles
 mod Filing

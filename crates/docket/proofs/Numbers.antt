@@ -1,7 +1,9 @@
 -- Numbers and their bits.
-use Rattle.std.proofs.Common.{◌≡◌, ℕ, zero, suc, ◌+◌, ◌*◌, ◌/◌, ◌%◌, ◌^◌, ◌<◌, List, [], ◌∷◌, ◌++◌, length, take, drop, sym, ap, ◌∙◌, subst, add-zero, mul-le-mul_right, mod-eq_of_lt, mul_assoc, zero-add, arith, pow-add}
+use Rattle.std.proofs.Common.{◌≡◌, ℕ, zero, suc, ◌+◌, ◌*◌, ◌/◌, ◌%◌, ◌^◌, ◌<◌, ◌≤◌, List, [], ◌∷◌, ◌++◌, length, take, sym, ap, ◌∙◌, subst, add-zero, mul-le-mul_right, mod-eq_of_lt, mul_assoc, zero-add, arith, pow-add}
+use Rattle.std.specs.List.{AllByRecursion}
+use Rattle.std.proofs.ByRecursion.{All-take, All-append}
 use Rattle.std.proofs.lemmas.Nat.{mod-pow-add}
-use Rattle.std.proofs.lemmas.List.{append_assoc, append-nil}
+use Rattle.std.proofs.lemmas.List.{append_assoc, append-nil, length-take-le}
 use Rattle.docket.specs.Bits.{bits, unpack, number, number_from}
 use Rattle.docket.proofs.Rows.{bits_join, length_bits}
 
@@ -17,13 +19,15 @@ bits_mod (suc w) x y p =
     let c : x % 2 ^ (1 + w) ≡ y % 2 ^ (1 + w) = cc in
     ap (λ (k : ℕ). x % 2 ^ k) e ∙ (c ∙ ap (λ (k : ℕ). y % 2 ^ k) (sym e))
 
-pub bits_inj : (w x y : ℕ) → x < 2 ^ w → y < 2 ^ w → bits w x ≡ bits w y → x ≡ y
+bits_inj : (w x y : ℕ) → x < 2 ^ w → y < 2 ^ w → bits w x ≡ bits w y → x ≡ y
 bits_inj w x y a b p = sym (mod-eq_of_lt a) ∙ (bits_mod w x y p ∙ mod-eq_of_lt b)
 
 -- each is 0 or 1
 abbrev pub Bits : List ℕ → Type 0
-Bits [] = Unit {0}
-Bits (b ∷ bs) = (b < 2) × Bits bs
+Bits = AllByRecursion (λ b. b < 2)
+
+pub Bits-append : (xs ys : List ℕ) → Bits xs → Bits ys → Bits (xs ++ ys)
+Bits-append = All-append (λ b. b < 2)
 
 pub bits_bits : (w n : ℕ) → Bits (bits w n)
 bits_bits zero n = tt
@@ -38,7 +42,7 @@ bits_push w n b h =
     ap (λ (k : ℕ). bits k (2 * n + b)) e ∙ ap (bits (w + 1)) m ∙ bits_join w 1 n b h ∙ ap (λ (r : List ℕ). bits w n ++ r) one
 
 -- a number, then more bits
-pub bits_from : (k n : ℕ) (bs : List ℕ) → Bits bs → bits (k + length bs) (number_from n bs) ≡ bits k n ++ bs
+bits_from : (k n : ℕ) (bs : List ℕ) → Bits bs → bits (k + length bs) (number_from n bs) ≡ bits k n ++ bs
 bits_from k n [] h = ap (λ (m : ℕ). bits m n) (add-zero k) ∙ sym (append-nil (bits k n))
 bits_from k n (b ∷ bs) h =
     let e : k + length (b ∷ bs) ≡ suc k + length bs = omega arith in
@@ -46,7 +50,7 @@ bits_from k n (b ∷ bs) h =
     ∙ (bits_from (suc k) (2 * n + b) bs h.1
     ∙ (ap (λ (r : List ℕ). r ++ bs) (bits_push k n b h.0) ∙ append_assoc (bits k n) (b ∷ []) bs))
 
-pub from_small : (n : ℕ) (bs : List ℕ) → Bits bs → number_from n bs < (n + 1) * 2 ^ length bs
+from_small : (n : ℕ) (bs : List ℕ) → Bits bs → number_from n bs < (n + 1) * 2 ^ length bs
 from_small n [] h = omega arith
 from_small n (b ∷ bs) h =
     let r = from_small (2 * n + b) bs h.1 in
@@ -57,10 +61,10 @@ from_small n (b ∷ bs) h =
     ∙ (ap (λ (k : ℕ). (n + 1) * k) p ∙ (sym (mul_assoc (n + 1) 2 (2 ^ length bs)) ∙ ap (λ (k : ℕ). k * 2 ^ length bs) (omega arith))) in
     omega (arith, r, q, mul-le-mul_right {m = 2 * n + b + 1} {n = 2 * n + 2} (2 ^ length bs) (omega (arith, h.0)))
 
-pub bits_number : (bs : List ℕ) → Bits bs → bits (length bs) (number bs) ≡ bs
+bits_number : (bs : List ℕ) → Bits bs → bits (length bs) (number bs) ≡ bs
 bits_number bs h = ap (λ (m : ℕ). bits m (number bs)) (sym (zero-add (length bs))) ∙ bits_from 0 0 bs h
 
-pub number_small : (bs : List ℕ) → Bits bs → number bs < 2 ^ length bs
+number_small : (bs : List ℕ) → Bits bs → number bs < 2 ^ length bs
 number_small bs h = omega (arith, from_small 0 bs h)
 
 pub number_bits : (w v : ℕ) → v < 2 ^ w → number (bits w v) ≡ v
@@ -71,19 +75,19 @@ number_bits w v h =
     (subst (λ (k : ℕ). number (bits w v) < 2 ^ k) l (number_small (bits w v) b)) h
     (subst (λ (k : ℕ). bits k (number (bits w v)) ≡ bits w v) l (bits_number (bits w v) b))
 
-pub Bits-take : (n : ℕ) (xs : List ℕ) → Bits xs → Bits (take n xs)
-Bits-take zero xs h = tt
-Bits-take (suc n) [] h = tt
-Bits-take (suc n) (x ∷ xs) h = (h.0, Bits-take n xs h.1)
+-- the number that the first w bits write
+module _ (w : ℕ) (U : List ℕ) (b : Bits U) (enough : w ≤ length U) where
+  taken : Bits (take w U)
+  taken = All-take (λ b. b < 2) w U b
 
-pub Bits-drop : (n : ℕ) (xs : List ℕ) → Bits xs → Bits (drop n xs)
-Bits-drop zero xs h = h
-Bits-drop (suc n) [] h = tt
-Bits-drop (suc n) (x ∷ xs) h = Bits-drop n xs h.1
+  size : length (take w U) ≡ w
+  size = length-take-le w U enough
 
-pub Bits-append : (xs ys : List ℕ) → Bits xs → Bits ys → Bits (xs ++ ys)
-Bits-append [] ys a b = b
-Bits-append (x ∷ xs) ys a b = (a.0, Bits-append xs ys a.1 b)
+  pub bits_taken : bits w (number (take w U)) ≡ take w U
+  bits_taken = subst (λ (k : ℕ). bits k (number (take w U)) ≡ take w U) size (bits_number (take w U) taken)
+
+  pub taken_small : number (take w U) < 2 ^ w
+  taken_small = subst (λ (k : ℕ). number (take w U) < 2 ^ k) size (number_small (take w U) taken)
 
 pub Bits-unpack : (bs : List ℕ) → Bits (unpack bs)
 Bits-unpack [] = tt

@@ -1,26 +1,25 @@
 -- Bits and the bytes that they fill.
-use Rattle.std.proofs.Common.{◌≡◌, ℕ, zero, suc, ◌+◌, ◌*◌, ◌≤◌, Bool, true, false, cond, eqb, List, [], ◌∷◌, ◌++◌, length, take, drop, sym, refl, ap, ◌∙◌, subst, arith, length-append, length-drop, take-append-drop}
-use Rattle.std.proofs.lemmas.List.{length-take-le, take_at, nil_from_length, append_assoc}
+use Rattle.std.proofs.Common.{◌≡◌, ℕ, zero, suc, ◌+◌, ◌*◌, ◌<◌, ◌≤◌, Bool, true, false, cond, eqb, List, [], ◌∷◌, ◌++◌, length, take, drop, sym, refl, ap, ◌∙◌, arith, length-append, length-drop, take-append-drop}
+use Rattle.std.proofs.ByRecursion.{All-drop}
+use Rattle.std.proofs.lemmas.List.{take_at, nil_from_length, append_assoc}
 use Rattle.answer.specs.Told.{Told, granted, refused}
 use Rattle.docket.specs.Bits.{bits, unpack, number, packed}
 use Rattle.docket.specs.Entries.{Plain, brings, words, answer_bits, answer_size, formula_bits, pad_size, head_size, entry_bits, size_of, entry_bytes}
 use Rattle.docket.specs.Laws.{Bytes}
 use Rattle.docket.proofs.Rows.{length_bits}
-use Rattle.docket.proofs.Numbers.{Bits, Bits-take, Bits-drop, Bits-append, bits_bits, bits_number, number_bits}
+use Rattle.docket.proofs.Numbers.{Bits, Bits-append, bits_bits, bits_taken, number_bits}
 
-pub length_packed : (n : ℕ) (U : List ℕ) → length (packed n U) ≡ n
+length_packed : (n : ℕ) (U : List ℕ) → length (packed n U) ≡ n
 length_packed zero U = refl
 length_packed (suc n) U = ap suc (length_packed n (drop 8 U))
 
-pub unpack_packed : (n : ℕ) (U : List ℕ) → Bits U → length U ≡ 8 * n → unpack (packed n U) ≡ U
+unpack_packed : (n : ℕ) (U : List ℕ) → Bits U → length U ≡ 8 * n → unpack (packed n U) ≡ U
 unpack_packed zero U b l = sym (nil_from_length U (omega arith))
 unpack_packed (suc n) U b l =
-    let h : length (take 8 U) ≡ 8 = length-take-le 8 U (omega arith) in
-    let front : bits 8 (number (take 8 U)) ≡ take 8 U = subst (λ (k : ℕ). bits k (number (take 8 U)) ≡ take 8 U) h (bits_number (take 8 U) (Bits-take 8 U b)) in
-    let back = unpack_packed n (drop 8 U) (Bits-drop 8 U b) (omega (arith, length-drop 8 U)) in
-    ap (λ (x : List ℕ). x ++ unpack (packed n (drop 8 U))) front ∙ (ap (λ (x : List ℕ). take 8 U ++ x) back ∙ take-append-drop 8 U)
+    let back = unpack_packed n (drop 8 U) (All-drop (λ b. b < 2) 8 U b) (omega (arith, length-drop 8 U)) in
+    ap (λ (x : List ℕ). x ++ unpack (packed n (drop 8 U))) (bits_taken 8 U b (omega arith)) ∙ (ap (λ (x : List ℕ). take 8 U ++ x) back ∙ take-append-drop 8 U)
 
-pub packed_unpack : (bs : List ℕ) → Bytes bs → packed (length bs) (unpack bs) ≡ bs
+packed_unpack : (bs : List ℕ) → Bytes bs → packed (length bs) (unpack bs) ≡ bs
 packed_unpack [] h = refl
 packed_unpack (b ∷ bs) h =
     let x : number (take 8 (unpack (b ∷ bs))) ≡ b = ap number (take_at (bits 8 b) (unpack bs) 8 refl) ∙ number_bits 8 b h.0 in
@@ -49,7 +48,7 @@ length_answer (refused q vs) = omega (arith, length_words vs)
 
 Bits-answer : (a : Told) → Bits (answer_bits a)
 Bits-answer (granted vs) = bits_bits 1 1
-Bits-answer (refused q vs) = Bits-append (bits 1 0) (bits 5 q ++ words vs) (bits_bits 1 0) (Bits-append (bits 5 q) (words vs) (bits_bits 5 q) (Bits-words vs))
+Bits-answer (refused q vs) = search (Bits-append, bits_bits, Bits-words)
 
 pub length_formula : (cs : List ℕ) → length (formula_bits cs) ≡ 4 + 16 * length cs
 length_formula cs = omega (arith, length_words cs)
@@ -73,16 +72,7 @@ length_entry_bits e =
     )
 
 Bits-entry : (e : Plain) → Bits (entry_bits e)
-Bits-entry e =
-    let a = e.answer in
-    let F : List ℕ = formula_bits e.new ++ bits (pad_size a) 0 in
-    Bits-append (bits 1 _) (bits 3 e.task ++ (bits 6 e.«record» ++ (answer_bits a ++ F))) (bits_bits 1 _)
-    (Bits-append (bits 3 e.task) (bits 6 e.«record» ++ (answer_bits a ++ F)) (bits_bits 3 e.task)
-    (Bits-append (bits 6 e.«record») (answer_bits a ++ F) (bits_bits 6 e.«record»)
-    (Bits-append (answer_bits a) F (Bits-answer a)
-    (Bits-append (formula_bits e.new) (bits (pad_size a) 0)
-    (Bits-append (bits 4 (length e.new)) (words e.new) (bits_bits 4 (length e.new)) (Bits-words e.new))
-    (bits_bits (pad_size a) 0)))))
+Bits-entry e = search (Bits-append, bits_bits, Bits-words, Bits-answer) depth 12
 
 pub unpack_entry : (e : Plain) → unpack (entry_bytes e) ≡ entry_bits e
 unpack_entry e = unpack_packed (size_of e) (entry_bits e) (Bits-entry e) (length_entry_bits e)

@@ -17,7 +17,7 @@ unpack_append [] ys = refl
 unpack_append (x ∷ xs) ys = ap (λ (r : List ℕ). bits 8 x ++ r) (unpack_append xs ys) ∙ sym (append_assoc (bits 8 x) (unpack xs) (unpack ys))
 
 -- higher bits do not matter
-pub bits_low : (w n : ℕ) → bits w (n % 2 ^ w) ≡ bits w n
+bits_low : (w n : ℕ) → bits w (n % 2 ^ w) ≡ bits w n
 bits_low w n = go w 0 n (add-zero w)
   where
     go : (v k m : ℕ) → v + k ≡ w → bits v (m % 2 ^ w) ≡ bits v m

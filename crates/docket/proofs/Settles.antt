@@ -44,7 +44,7 @@ field_steady w m next h = record { enough = enough; settled = settled }
         go false p = absurd (nay (cond-false _ _ _ p))
 
 ok_19 : (e : Plain) → ◌≡◌ {A = Reading} (Ok e) (Err 19) → ⊥
-ok_19 e p = let z : ◌≡◌ {A = ℕ} 0 1 = cc in omega arith
+ok_19 e p = cc
 
 -- lawful content, with what it tells
 lawful_steady : (m : ℕ) (b : Bool) (f : List ℕ → Reading) → (b ≡ true → Steady m f) → Steady m (λ U. lawful b (f U))
@@ -93,7 +93,7 @@ steady =
     (λ t. field_steady 6 158 (told_at k t) (λ r. answer_steady (new_at k t r) (new_steady k t r))))
 
 placed_19 : (place : ℕ) (r : Reading) → placed_at place r ≡ refusal 19 → r ≡ Err 19
-placed_19 place (Ok e) p = absurd (let z : ◌≡◌ {A = ℕ} 0 1 = cc in omega arith)
+placed_19 place (Ok e) p = absurd cc
 placed_19 place (Err q) p = let e : q ≡ 19 = cc in ap (λ (n : ℕ). Err n) e
 
 -- whether a reading misses bits

@@ -54,7 +54,7 @@ module _ (n : ℕ) (U V W vs : List ℕ) (count : U ≡ bits 4 n ++ V) (clauses 
       ∙ (words_here vs W (λ cs W. lawful (kept cs) (next cs W)) small ∙ cond-false _ _ _ (keeping_none vs k)))
 
 -- the kind, the task and the record of an entry
-module _ (k t r : ℕ) (U U1 U2 U3 : List ℕ) (e1 : U ≡ bits 1 k ++ U1) (s1 : k < 2) (e2 : U1 ≡ bits 3 t ++ U2) (s2 : t < 8) (e3 : U2 ≡ bits 6 r ++ U3) (s3 : r < 64) where
+module _ {k t r : ℕ} {U U1 U2 U3 : List ℕ} (e1 : U ≡ bits 1 k ++ U1) (s1 : k < 2) (e2 : U1 ≡ bits 3 t ++ U2) (s2 : t < 8) (e3 : U2 ≡ bits 6 r ++ U3) (s3 : r < 64) where
   pub at_answer : entry_at U ≡ told_at k t r U3
   at_answer =
       ap entry_at (e1 ∙ ap (λ (x : List ℕ). bits 1 k ++ x) (e2 ∙ ap (λ (x : List ℕ). bits 3 t ++ x) e3))
@@ -72,7 +72,7 @@ module _ (k t r : ℕ) (U U1 U2 U3 : List ℕ) (e1 : U ≡ bits 1 k ++ U1) (s1 :
       at_padding = at_formula ∙ (ap (new_at k t r a) e5 ∙ formula_here cs U5 (λ cs V. pad_at (made k t r a cs) V) form clauses)
 
       -- and the bits to the byte's end, as many as pad the entry
-      module _ (w p : ℕ) (U6 : List ℕ) (e6 : U5 ≡ bits w p ++ U6) (s6 : p < 2 ^ w) (wide : w ≡ length U5 % 8) (whole : length U % 8 ≡ 0) where
+      module _ {w p : ℕ} (U6 : List ℕ) (e6 : U5 ≡ bits w p ++ U6) (s6 : p < 2 ^ w) (wide : w ≡ length U5 % 8) (whole : length U % 8 ≡ 0) where
         lengths : (w ≡ pad_size a) × (length U ≡ 8 * size_of (made k t r a cs) + length U6)
         lengths =
             let l1 = ap length e1 ∙ length-append (bits 1 k) U1 in
@@ -84,15 +84,14 @@ module _ (k t r : ℕ) (U U1 U2 U3 : List ℕ) (e1 : U ≡ bits 1 k ++ U1) (s1 :
             let pad : w ≡ pad_size a = omega (arith, l1, l2, l3, l4, l5, length_answer a, length_formula cs, sizes a, pad_most a) in
             (pad, omega (arith, pad, l1, l2, l3, l4, l5, l6, length_answer a, length_formula cs, length_bits w p, sizes a))
 
-        pub entry_size : length U ≡ 8 * size_of (made k t r a cs) + length U6
-        entry_size = lengths.1
-
-        pub judged : entry_at U ≡ lawful (eqb p 0) (Ok (made k t r a cs))
+        pub judged : (entry_at U ≡ lawful (eqb p 0) (Ok (made k t r a cs))) × (length U ≡ 8 * size_of (made k t r a cs) + length U6)
         judged =
-            let next : ℕ → List ℕ → Reading = λ p V. lawful (eqb p 0) (Ok (made k t r a cs)) in
-            at_padding
-            ∙ (ap (λ (i : ℕ). field i U5 next) (sym lengths.0)
-            ∙ (ap (λ (x : List ℕ). field w x next) e6 ∙ field_here w p U6 next s6))
+            let next : ℕ → List ℕ → Reading = λ p V. lawful (eqb p 0) (Ok (made k t r a cs)) in (
+              at_padding
+                  ∙ (ap (λ (i : ℕ). field i U5 next) (sym lengths.0)
+                  ∙ (ap (λ (x : List ℕ). field w x next) e6 ∙ field_here w p U6 next s6)),
+              lengths.1,
+            )
 
 kind_small : (a : Kind) → kind_bit a < 2
 kind_small Release = omega arith
@@ -113,7 +112,7 @@ reads_back_bits e rest h =
     let behind : (answer_bits a ++ (formula_bits cs ++ P)) ++ rest ≡ answer_bits a ++ (formula_bits cs ++ (P ++ rest)) =
     append_assoc (answer_bits a) (formula_bits cs ++ P) rest ∙ ap (λ (y : List ℕ). answer_bits a ++ y) (append_assoc (formula_bits cs) P rest) in
     let same : made (kind_bit e.kind) e.task e.«record» a cs ≡ e = ap (λ (k : Kind). record e { kind = k }) (kind_back e.kind) in
-    at_padding (kind_bit e.kind) e.task e.«record» (entry_bits e ++ rest) _ _ _ refl (kind_small e.kind) refl (ltb-true e.task 8 f.0) refl (ltb-true e.«record» 64 g.0)
+    at_padding {k = kind_bit e.kind} {t = e.task} {r = e.«record»} {U = entry_bits e ++ rest} refl (kind_small e.kind) refl (ltb-true e.task 8 f.0) refl (ltb-true e.«record» 64 g.0)
     a _ behind g.1 h.groups cs (P ++ rest) refl h.form h.clauses
     ∙ (field_here (pad_size a) 0 rest (λ p V. lawful (eqb p 0) (Ok (made (kind_bit e.kind) e.task e.«record» a cs))) (pow_pos (pad_size a))
     ∙ ap (λ (x : Plain). Ok x) same)

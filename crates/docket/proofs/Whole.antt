@@ -1,8 +1,8 @@
 -- Entries at their places, and whole dockets.
-use Rattle.std.proofs.Common.{◌≡◌, ℕ, ◌+◌, ◌*◌, ◌<◌, ◌≤◌, Bool, true, false, ◌&&◌, eqb, ltb, List, [], ◌∷◌, ◌++◌, length, take, drop, Ok, Err, sym, refl, ap, ◌∙◌, subst, arith, length-append, length-drop, take-append-drop}
+use Rattle.std.proofs.Common.{◌≡◌, ℕ, ◌+◌, ◌*◌, ◌<◌, ◌≤◌, true, ◌&&◌, eqb, ltb, List, [], ◌∷◌, ◌++◌, length, take, drop, Ok, Err, sym, refl, ap, ◌∙◌, subst, inl, inr, arith, length-append, length-drop, take-append-drop}
 use Rattle.std.proofs.ByRecursion.{All-take, All-drop}
 use Rattle.std.proofs.lemmas.List.{append_assoc, append-nil, take_at, drop_at, drop-drop, drop_all, length-take-le}
-use Rattle.std.proofs.lemmas.Bool.{eqb-true, cond-true, cond-false, and_parts}
+use Rattle.std.proofs.lemmas.Bool.{cases_eq, cases_cond, eqb-true, ne_eqb, cond-false, and_parts}
 use Rattle.answer.specs.Told.{Told, granted, refused}
 use Rattle.docket.specs.Bits.{unpack}
 use Rattle.docket.specs.Entries.{Plain, asked, brings, carries_answer, head_size, size_of, entry_bits, entry_bytes}
@@ -41,31 +41,35 @@ reads_back e before after h =
     ∙ ap (placed_at (length before)) (ap (λ (x : List ℕ). entry_at (unpack x)) d ∙ (ap entry_at u ∙ reads_back_bits e (unpack after) h))
 
 placed_over : (place : ℕ) (r : Reading) → placed_at place r ≡ over → ⊥
-placed_over place (Ok e) p = let z : ◌≡◌ {A = ℕ} 0 1 = cc in omega arith
-placed_over place (Err q) p = let z : ◌≡◌ {A = ℕ} 0 1 = cc in omega arith
+placed_over place (Ok e) p = cc
+placed_over place (Err q) p = cc
 
 placed_entry : (place : ℕ) (r : Reading) (e : Plain) (n : ℕ) → placed_at place r ≡ entry e n → (r ≡ Ok e) × (n ≡ place + size_of e)
 placed_entry place (Ok x) e n p =
     let s : x ≡ e = cc in
     let t : place + size_of x ≡ n = cc in
     (ap (λ (y : Plain). Ok y) s, sym t ∙ ap (λ (y : Plain). place + size_of y) s)
-placed_entry place (Err q) e n p = absurd (let z : ◌≡◌ {A = ℕ} 0 1 = cc in omega arith)
+placed_entry place (Err q) e n p = absurd cc
 
 pub over_end : (bytes : List ℕ) (place : ℕ) → read_at bytes place ≡ over → place ≡ length bytes
-over_end bytes place p = go (ltb (length bytes) place) (eqb place (length bytes)) refl refl
-  where
-    go : (a b : Bool) → ltb (length bytes) place ≡ a → eqb place (length bytes) ≡ b → place ≡ length bytes
-    go true b x y = absurd (let q : refusal 19 ≡ over = sym (cond-true _ _ _ x) ∙ p in let z : ◌≡◌ {A = ℕ} 0 1 = cc in omega arith)
-    go false true x y = eqb-true place (length bytes) y
-    go false false x y = absurd (placed_over place _ (sym (cond-false _ _ _ x ∙ cond-false _ _ _ y) ∙ p))
+over_end bytes place p =
+    elim (cases_eq place (length bytes)) [
+      | inl e ↦ e
+      | inr n ↦ elim (cases_cond (ltb (length bytes) place) (refusal 19) _ over (sym p)) [
+        | inl q ↦ absurd cc
+        | inr q ↦ absurd (placed_over place _ (sym (q ∙ cond-false _ _ _ (ne_eqb place (length bytes) n))))
+      ]
+    ]
 
 found : (bytes : List ℕ) (place : ℕ) (e : Plain) (n : ℕ) → read_at bytes place ≡ entry e n → (entry_at (unpack (drop place bytes)) ≡ Ok e) × (n ≡ place + size_of e)
-found bytes place e n p = go (ltb (length bytes) place) (eqb place (length bytes)) refl refl
-  where
-    go : (a b : Bool) → ltb (length bytes) place ≡ a → eqb place (length bytes) ≡ b → (entry_at (unpack (drop place bytes)) ≡ Ok e) × (n ≡ place + size_of e)
-    go true b x y = absurd (let q : refusal 19 ≡ entry e n = sym (cond-true _ _ _ x) ∙ p in let z : ◌≡◌ {A = ℕ} 0 1 = cc in omega arith)
-    go false true x y = absurd (let q : over ≡ entry e n = sym (cond-false _ _ _ x ∙ cond-true _ _ _ y) ∙ p in let z : ◌≡◌ {A = ℕ} 0 1 = cc in omega arith)
-    go false false x y = placed_entry place _ e n (sym (cond-false _ _ _ x ∙ cond-false _ _ _ y) ∙ p)
+found bytes place e n p =
+    elim (cases_cond (ltb (length bytes) place) (refusal 19) _ (entry e n) (sym p)) [
+      | inl q ↦ absurd cc
+      | inr q ↦ elim (cases_cond (eqb place (length bytes)) over _ (entry e n) q) [
+        | inl r ↦ absurd cc
+        | inr r ↦ placed_entry place _ e n (sym r)
+      ]
+    ]
 
 pub read_was_written : ReadWasWritten
 read_was_written bytes place e next b p =

@@ -14,9 +14,6 @@ use Rattle.exports.specs.declared.compare.Unread.{Unread}
 use Rattle.formula.specs.declared.kept.Formula.{Formula}
 use Rattle.formula.specs.Of.{clauses_of}
 
-never : (f vs : List ℕ) (q : ℕ) → granted f ≡ refused q vs → ⊥
-never f vs q e = let z : ◌≡◌ {A = ℕ} 0 1 = cc in omega arith
-
 -- a formula that was granted is the reduced list
 is_reduced : (a f : List ℕ) → granted f ≡ formula_from a → f ≡ reduced (clauses_from a)
 is_reduced a f e =
@@ -25,11 +22,11 @@ is_reduced a f e =
       | inl p ↦ elim (cases_cond (leb (length l) 64) (fitting (reduced l)) (refused 1 []) (granted f) p) [
         | inl q ↦ elim (cases_cond (fits (reduced l)) (granted (reduced l)) (refused 2 []) (granted f) q) [
           | inl r ↦ cc
-          | inr r ↦ absurd (never f [] 2 r)
+          | inr r ↦ absurd cc
         ]
-        | inr q ↦ absurd (never f [] 1 q)
+        | inr q ↦ absurd cc
       ]
-      | inr p ↦ absurd (never f [] 19 p)
+      | inr p ↦ absurd cc
     ]
 
 alike : (a f : List ℕ) → granted f ≡ formula_from a → Alike (clauses_from a) f

@@ -9,8 +9,8 @@ use Rattle.docket.proofs.bits_packed.BitsPacked.put_answer.Goals as goal
 
 -- an answer that brings a group brings no more
 group_bits : (a : Told) (n g : ℕ) → n ≡ question_of a → Some g ≡ group_of a → carries_answer a ≡ true → bits 1 0 ++ (bits 5 n ++ bits 16 g) ≡ answer_bits a
-group_bits (granted vs) n g q s c = absurd (let z : ◌≡◌ {A = ℕ} 0 1 = cc in omega arith)
-group_bits (refused q []) n g i s c = absurd (let z : ◌≡◌ {A = ℕ} 0 1 = cc in omega arith)
+group_bits (granted vs) n g q s c = absurd cc
+group_bits (refused q []) n g i s c = absurd cc
 group_bits (refused q (v ∷ [])) n g i s c =
     let e : g ≡ v = cc in
     ap (λ (k : ℕ). bits 1 0 ++ (bits 5 k ++ bits 16 g)) i ∙ ap (λ (k : ℕ). bits 1 0 ++ (bits 5 q ++ bits 16 k)) e
