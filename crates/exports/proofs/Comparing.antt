@@ -1,5 +1,5 @@
 -- Formulas from bytes compared.
-use Rattle.std.proofs.Common.{◌≡◌, ℕ, Bool, true, false, cond, leb, List, [], length, Decides, Ok, Err, Result, MatchResult, refl, sym, ap, ◌∙◌, subst, inl, inr, true≢false, arith}
+use Rattle.std.proofs.Common.{◌≡◌, ℕ, Bool, true, false, cond, leb, List, [], length, Decides, Ok, Err, Result, MatchResult, refl, sym, ap, ◌∙◌, subst, inl, inr, true≢false}
 use Rattle.std.proofs.lemmas.Bool.{cases_cond}
 use Rattle.answer.specs.declared.Refusal.{Refusal}
 use Rattle.answer.specs.Told.{Told, granted, refused, says}
