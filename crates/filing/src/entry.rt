@@ -5,8 +5,8 @@ ghost use Rattle.lines.specs.Forms.{form_of};
 
 use answer::{Answer, Refusal};
 use docket::Entry;
+use formula::Formula;
 use lines::{Call, parse};
-use words::read_formula;
 
 /// What the call was answered, without a figure.
 // A function and no `From`, as it loses the figure.
@@ -38,6 +38,6 @@ pub(crate) fn entry_of(line: &[u8], answer: Answer) -> Option<Entry>
         task,
         record,
         answer: verdict_of(answer),
-        new: read_formula(new).ok()?,
+        new: Formula::try_from(new).ok()?,
     })
 }

@@ -126,10 +126,6 @@ pub read : Read
 read =
     record {
       refused_so = λ t. refl;
-      plain_read = λ k e t next. ap next (sym e);
-      plain_misread = λ k e p. differ {m = 1} {n = 2} refl (ap first_in (p blank tell) ∙ ap (λ (cs : List ℕ). get_or cs 0 0) e);
-      plain_refused = λ t next. refl;
-      plain_refused_not = λ p. no_refusal refl refl (p blank tell);
       label_read = λ l p q t next. ap₂ next (sym p) (sym q);
       label_misread = λ l p q w. differ {m = 1} {n = 2} refl (ap first_in (w blank (λ a b. tell a)) ∙ ap (λ (cs : List ℕ). get_or cs 0 0) p);
       label_refused = λ t next. refl;

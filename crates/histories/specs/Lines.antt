@@ -27,7 +27,7 @@ use Rattle.lines.specs.Forms.{Form, enters, opens, closes, takes, puts, drops, s
 use Rattle.lines.specs.Rest.{left_of}
 use Rattle.lines.specs.Left.{Took, Taken, Ended, pair_said, LabelTaken, robust_say, bounded_say, key_say, BoundsTaken, KeyTaken, changes, change_form, say, say_in}
 use Rattle.lines.specs.Obey.{line_ruled, values}
-use Rattle.lines.specs.Keys.{line_meaning, refusing, PlainRead, LabelRead, bounding, BoundsRead, BoundedRead, KeyRead}
+use Rattle.lines.specs.Keys.{line_meaning, refusing, LabelRead, bounding, BoundsRead, BoundedRead, KeyRead}
 use Rattle.words.specs.Hex.{hex_four}
 use Rattle.words.specs.Parted.{parted}
 use Rattle.words.specs.Clauses.{hex_all}
@@ -210,10 +210,6 @@ pub record Lines : Type 0 where
 pub record Read : Type 0 where
   -- what is read goes on, and what is refused refuses the line
   pub refused_so : (t : State) → refusing t LargeFormula ≡ refuse t 2
-  pub plain_read : (k : PlainKey) → clauses_of k.formula ≡ one → PlainRead (3 ∷ 1 ∷ []) (Ok k)
-  pub plain_misread : (k : PlainKey) → clauses_of k.formula ≡ two → PlainRead (3 ∷ 1 ∷ []) (Ok k) → ⊥
-  pub plain_refused : PlainRead (replicate 65 1) (Err LongList)
-  pub plain_refused_not : PlainRead one (Err LongList) → ⊥
   pub label_read : (l : Label) → clauses_of l.sight.0 ≡ one → clauses_of l.hand.0 ≡ two → LabelRead one two (Ok l)
   pub label_misread : (l : Label) → clauses_of l.sight.0 ≡ two → clauses_of l.hand.0 ≡ one → LabelRead one two (Ok l) → ⊥
   pub label_refused : LabelRead one (replicate 65 1) (Err LongList)

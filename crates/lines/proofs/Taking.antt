@@ -1,20 +1,15 @@
 -- Words taken from a line, one at a time.
-use Rattle.std.proofs.Common.{◌≡◌, ℕ, ◌<◌, eqb, List, [], ◌∷◌, length, Some, None, Option, sym, refl, ap, ◌∙◌, subst, arith, Bor}
+use Rattle.std.proofs.Common.{◌≡◌, ℕ, ◌<◌, eqb, List, [], ◌∷◌, length, Some, None, Option, sym, refl, ◌∙◌, subst, arith, Bor}
 use Rattle.std.proofs.lemmas.List.Splits.{length-slice_split}
 use Rattle.words.specs.Parted.{parted, Cut}
-use Rattle.words.proofs.Parts.{cut_parts, parts_of, parted_is}
+use Rattle.words.proofs.Parts.{cut_parts, parted_is}
 use Rattle.lines.specs.Forms.{Words, Form, ends}
 use Rattle.lines.specs.Rest.{left_of}
 use Rattle.lines.specs.Left.{Took}
 
-same_left : (o : Option (Bor (List ℕ))) → parts_of 32 o ≡ left_of o
-same_left None = refl
-same_left (Some r) = refl
-
 pub took : (ws : Words) (line : List ℕ) (v : Bor (List ℕ)) (o : Option (Bor (List ℕ))) → ws ≡ parted 32 line → Cut 32 line v.now o
     → Took ws (Some v) (left_of o)
-took ws line v o e c =
-    subst (λ (x : Words). Took x (Some v) (left_of o)) (sym (e ∙ (cut_parts 32 line v.now o c ∙ ap (λ (r : Words). v.now ∷ r) (same_left o)))) (refl, refl)
+took ws line v o e c = subst (λ (x : Words). Took x (Some v) (left_of o)) (sym (e ∙ cut_parts 32 line v.now o c)) (refl, refl)
 
 ends_none : (c : Form) (ws : Words) → 0 < length ws → ends c ws ≡ None
 ends_none c [] h = absurd (omega arith)

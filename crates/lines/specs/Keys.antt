@@ -5,7 +5,6 @@ use Rattle.answer.specs.declared.Answer.TheVariants.{Refused}
 use Rattle.answer.specs.Told.{told}
 use Rattle.formula.specs.Of.{clauses_of}
 use Rattle.label.specs.declared.label.Label.{Label}
-use Rattle.key.specs.declared.plain.Plain.{Plain as PlainKey}
 use Rattle.key.specs.declared.bounded.Bounds.{Bounds}
 use Rattle.key.specs.declared.bounded.Bounded.{Bounded as BoundedKey}
 use Rattle.key.specs.Requests.{Limits, limits}
@@ -29,10 +28,6 @@ abbrev pub refusing : State → Refusal → Ruled
 refusing t q = record { state = t; answer = told (Refused q) }
 
 -- whatever comes next, it goes on with what was read, or the line is refused so
-abbrev pub PlainRead : List ℕ → Result PlainKey Refusal → Type 0
-PlainRead f (Ok k) = (t : State) (next : List ℕ → Ruled) → reducing t f next ≡ next (clauses_of k.formula)
-PlainRead f (Err q) = (t : State) (next : List ℕ → Ruled) → reducing t f next ≡ refusing t q
-
 abbrev pub LabelRead : List ℕ → List ℕ → Result Label Refusal → Type 0
 LabelRead s h (Ok l) = (t : State) (next : List ℕ → List ℕ → Ruled) → reducing t s (λ a. reducing t h (λ b. next a b)) ≡ next (clauses_of l.sight.0) (clauses_of l.hand.0)
 LabelRead s h (Err q) = (t : State) (next : List ℕ → List ℕ → Ruled) → reducing t s (λ a. reducing t h (λ b. next a b)) ≡ refusing t q

@@ -6,11 +6,10 @@ ghost use Rattle.lines.specs.Obey.{obeying, line_ruled, values};
 
 use crate::call::Call;
 use crate::forms::parse;
-use crate::reading::{read_key, read_label};
+use crate::line_key::LineKey;
 use answer::{Answer, Refusal};
 use label::Kind;
 use monitor::Monitor;
-use words::read_formula;
 
 /// Makes the call, and answers the figure that it brings, if any.
 fn make(monitor: &mut Monitor, call: Call<'_>) -> Result<Option<u32>, Refusal>
@@ -23,7 +22,7 @@ fn make(monitor: &mut Monitor, call: Call<'_>) -> Result<Option<u32>, Refusal>
             party,
             figure,
             label,
-        } => monitor.enter(record, party, figure, read_label(label)?)?,
+        } => monitor.enter(record, party, figure, label.try_into()?)?,
         Call::Open { task, party } => monitor.open(task, party)?,
         Call::Close { task } => monitor.close(task)?,
         Call::Take {
@@ -41,8 +40,8 @@ fn make(monitor: &mut Monitor, call: Call<'_>) -> Result<Option<u32>, Refusal>
             new,
             key,
         } => {
-            let new = read_formula(new)?;
-            let key = read_key(key)?;
+            let new = new.try_into()?;
+            let key = LineKey::try_from(key)?;
             match kind {
                 Kind::Release => monitor.release(task, record, new, &key)?,
                 Kind::Endorse => monitor.endorse(task, record, new, &key)?,

@@ -4,7 +4,7 @@ use Rattle.std.specs.List.{slice_split, onto_first, All}
 use Rattle.std.proofs.lemmas.Bool.{eq-eqb}
 use Rattle.std.proofs.lemmas.Grind.{common_steps}
 use Rattle.std.proofs.lemmas.List.Splits.{slice_split_at, slice_split_none}
-use Rattle.words.specs.Parted.{parted, before, Without, Cut}
+use Rattle.words.specs.Parted.{parted, before, parts_of, Without, Cut}
 
 before_is : (b : ℕ) (ws : List (List ℕ)) → onto_first b ws ≡ before b ws
 before_is b [] = refl
@@ -19,10 +19,6 @@ parted_is sep (b ∷ bs) =
 
 none_passes : (sep : ℕ) (word : List ℕ) → Without sep word → All (λ b. eqb b sep ≡ false) word
 none_passes sep word h = λ k d l. let n = h k l in grind (arith, common_steps)
-
-abbrev pub parts_of : ℕ → Option (Bor (List ℕ)) → List (List ℕ)
-parts_of sep None = []
-parts_of sep (Some r) = parted sep r.now
 
 pub cut_parts : (sep : ℕ) (line word : List ℕ) (o : Option (Bor (List ℕ))) → Cut sep line word o → parted sep line ≡ word ∷ parts_of sep o
 cut_parts sep line word None c =

@@ -11,6 +11,11 @@ abbrev pub parted : ℕ → List ℕ → List (List ℕ)
 parted sep [] = [] ∷ []
 parted sep (b ∷ bs) = cond (b == sep) ([] ∷ parted sep bs) (before b (parted sep bs))
 
+-- the parts of what is left of a row, if anything is
+abbrev pub parts_of : ℕ → Option (Bor (List ℕ)) → List (List ℕ)
+parts_of sep None = []
+parts_of sep (Some r) = parted sep r.now
+
 -- parts joined by single separators
 abbrev pub joined : ℕ → List (List ℕ) → List ℕ
 joined sep [] = []

@@ -28,11 +28,15 @@ impl ClausesWord<'_> {
 }
 
 /// The formula that a word writes, reduced to its kept form.
-pub fn read_formula(word: FormulaWord<'_>) -> Result<Formula, Refusal>
-    ensures { says clauses_of result ≡ reduces (written word.entry) }
-{
-    match word {
-        FormulaWord::True => Ok(Formula::truth()),
-        FormulaWord::Clauses(word) => word.read(),
+impl TryFrom<FormulaWord<'_>> for Formula {
+    type Error = Refusal;
+
+    ghost try_from_gives = { λ word r. says clauses_of r ≡ reduces (written word) };
+
+    fn try_from(word: FormulaWord<'_>) -> Result<Formula, Refusal> {
+        match word {
+            FormulaWord::True => Ok(Formula::truth()),
+            FormulaWord::Clauses(word) => word.read(),
+        }
     }
 }

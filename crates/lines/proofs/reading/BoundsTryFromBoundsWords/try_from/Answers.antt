@@ -7,7 +7,7 @@ use Rattle.key.specs.Requests.{Limits}
 use Rattle.words.specs.Formulas.{written}
 use Rattle.lines.specs.declared.call.BoundsWords.{BoundsWords}
 use Rattle.lines.specs.Obey.{reducing}
-use Rattle.lines.proofs.reading.read_bounds.Goals as goal
+use Rattle.lines.proofs.reading.BoundsTryFromBoundsWords.try_from.Goals as goal
 
 -- what comes behind the high label, and behind both
 abbrev limit : List ℕ → List ℕ → List ℕ → List ℕ → Limits
