@@ -1,10 +1,9 @@
 -- The rows of the docket's lines, of C and of the monitor hold.
 use Rattle.std.proofs.Common.{◌≡◌, ℕ, ◌<◌, [], ◌∷◌, map, get_or, sym, refl, ap, ◌∙◌, true≢false, arith, lit<}
-use mathlib.Core.Bool.{false≢true}
 use Rattle.answer.specs.Told.{Told, granted, refused, question_of}
 use Rattle.clause.specs.Groups.{least}
 use Rattle.label.specs.Labels.{Marks}
-use Rattle.rules.specs.State.{holds, blank, is_figure}
+use Rattle.rules.specs.State.{holds, blank}
 use Rattle.rules.specs.Step.{Ruled}
 use Rattle.rules.specs.Runs.{is_granted}
 use Rattle.monitor.specs.View.{place_of}
