@@ -26,6 +26,13 @@ impl<'a> ClausesWord<'a> {
             None
         }
     }
+
+    /// The part of the line.
+    pub fn as_bytes(self) -> &'a [u8]
+        ensures { result.now ≡ self.entry.part.now }
+    {
+        self.part
+    }
 }
 
 impl<'a> FormulaWord<'a> {
