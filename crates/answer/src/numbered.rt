@@ -3,6 +3,7 @@ ghost use Rattle.answer.specs.Told.{told};
 ghost use Rattle.answer.specs.Text.{numbered};
 
 use crate::Answer;
+use crate::text::push_answer;
 use arrayvec::ArrayString;
 use itoa::Buffer;
 use std::fmt;
@@ -23,7 +24,7 @@ impl Numbered {
         let mut digits = Buffer::new();
         numbered.push_str(digits.format(self.line));
         numbered.push_str(" ");
-        numbered.push_str(self.answer.text().as_str());
+        push_answer(&mut numbered, self.answer);
         numbered
     }
 }

@@ -26,27 +26,35 @@ fn push_group<const N: usize>(text: &mut ArrayString<N>, group: u16)
     text.push(hex_digit(group));
 }
 
+/// Appends what is printed of the answer: at the longest `ok ` and a figure of ten digits.
+pub(crate) fn push_answer<const N: usize>(out: &mut ArrayString<N>, answer: Answer)
+    requires { array_string_len out.old + 13 ≤ N }
+    ensures { out.new.bytes ≡ out.old.bytes ++ text (told answer) }
+{
+    let mut digits = Buffer::new();
+    match answer {
+        Answer::Done => out.push_str("ok"),
+        Answer::Figure(figure) => {
+            out.push_str("ok ");
+            out.push_str(digits.format(figure));
+        }
+        Answer::Refused(refusal) => {
+            out.push_str(digits.format(refusal.number()));
+            if let Some(group) = refusal.group() {
+                out.push_str(" ");
+                push_group(out, group);
+            }
+        }
+    }
+}
+
 impl Answer {
-    /// What is printed of the answer. The longest is `ok ` and a figure of ten digits.
+    /// What is printed of the answer.
     pub fn text(self) -> ArrayString<13>
         ensures { result.bytes ≡ text (told self) }
     {
         let mut text = ArrayString::new();
-        let mut digits = Buffer::new();
-        match self {
-            Answer::Done => text.push_str("ok"),
-            Answer::Figure(figure) => {
-                text.push_str("ok ");
-                text.push_str(digits.format(figure));
-            }
-            Answer::Refused(refusal) => {
-                text.push_str(digits.format(refusal.number()));
-                if let Some(group) = refusal.group() {
-                    text.push_str(" ");
-                    push_group(&mut text, group);
-                }
-            }
-        }
+        push_answer(&mut text, self);
         text
     }
 }
