@@ -1,8 +1,8 @@
 -- What is read was written.
-use Rattle.std.proofs.Common.{◌≡◌, ℕ, zero, suc, ◌^◌, ◌<◌, ◌≤◌, Bool, true, false, cond, ◌&&◌, eqb, ltb, leb, List, [], ◌∷◌, ◌++◌, length, take, drop, Ok, Err, sym, refl, ap, ◌∙◌, subst, arith, take-append-drop}
+use Rattle.std.proofs.Common.{◌≡◌, ℕ, zero, suc, ◌^◌, ◌<◌, ◌≤◌, Bool, true, false, cond, ◌&&◌, eqb, ltb, leb, List, [], ◌∷◌, ◌++◌, length, take, drop, Ok, Err, sym, refl, ap, ◌∙◌, subst, inl, inr, arith, take-append-drop}
 use Rattle.std.proofs.ByRecursion.{All-drop}
 use Rattle.std.proofs.lemmas.List.{append_assoc}
-use Rattle.std.proofs.lemmas.Bool.{eq-eqb, eqb-true, eqb-false, leb-true, lt-ltb, and_from, cond-true, cond-false}
+use Rattle.std.proofs.lemmas.Bool.{eq-eqb, eqb-true, eqb-false, leb-true, lt-ltb, and_from, cases_Bool, cond-true, cond-false}
 use Rattle.answer.specs.Told.{Told, granted, refused}
 use Rattle.formula.specs.Keeping.{kept}
 use Rattle.label.specs.Kinds.{kind_bit}
@@ -28,20 +28,20 @@ abbrev Below : ℕ → ℕ → Type 0
 Below w v = v < 2 ^ w
 
 field_inv : (w : ℕ) (U : List ℕ) (next : ℕ → List ℕ → Reading) (e : Plain) → Bits U → field w U next ≡ Ok e → Begun (bits w) (Below w) next U e
-field_inv w U next e b q = go (leb w (length U)) refl
-  where
-    go : (x : Bool) → leb w (length U) ≡ x → Begun (bits w) (Below w) next U e
-    go true p =
-        let enough : w ≤ length U = leb-true w (length U) p in
-        record {
-          value = number (take w U);
-          rest = drop w U;
-          fine = taken_small w U b enough;
-          whole = sym (take-append-drop w U) ∙ ap (λ (x : List ℕ). x ++ drop w U) (sym (bits_taken w U b enough));
-          rest_bits = All-drop (λ b. b < 2) w U b;
-          more = sym (cond-true _ _ _ p) ∙ q;
-        }
-    go false p = absurd (err_ok 19 e (sym (cond-false _ _ _ p) ∙ q))
+field_inv w U next e b q =
+    elim (cases_Bool (leb w (length U))) [
+      | inl p ↦
+          let enough : w ≤ length U = leb-true w (length U) p in
+          record {
+            value = number (take w U);
+            rest = drop w U;
+            fine = taken_small w U b enough;
+            whole = sym (take-append-drop w U) ∙ ap (λ (x : List ℕ). x ++ drop w U) (sym (bits_taken w U b enough));
+            rest_bits = All-drop (λ b. b < 2) w U b;
+            more = sym (cond-true _ _ _ p) ∙ q;
+          }
+      | inr p ↦ absurd (err_ok 19 e (sym (cond-false _ _ _ p) ∙ q))
+    ]
 
 lawful_inv : (b : Bool) (r : Reading) (e : Plain) → lawful b r ≡ Ok e → (b ≡ true) × (r ≡ Ok e)
 lawful_inv true r e p = (refl, p)

@@ -43,9 +43,6 @@ field_steady w m next h = record { enough = enough; settled = settled }
             ∙ (ap (next (number (take w U))) (drop-append-le w U V l) ∙ (s.settled (drop w U) V (λ e. nay (here ∙ e)) ∙ sym here)))
         go false p = absurd (nay (cond-false _ _ _ p))
 
-ok_19 : (e : Plain) → ◌≡◌ {A = Reading} (Ok e) (Err 19) → ⊥
-ok_19 e p = cc
-
 -- lawful content, with what it tells
 lawful_steady : (m : ℕ) (b : Bool) (f : List ℕ → Reading) → (b ≡ true → Steady m f) → Steady m (λ U. lawful b (f U))
 lawful_steady m true f h = h refl
@@ -67,7 +64,7 @@ pad_steady : (e : Plain) → Steady 4 (pad_at e)
 pad_steady e =
     more (pad_size e.answer + 0) 4 (pad_at e) (omega (arith, pad_most e.answer))
     (field_steady (pad_size e.answer) 0 (λ p W. lawful (eqb p 0) (Ok e))
-    (λ p. lawful_steady 0 (eqb p 0) (λ W. Ok e) (λ t. record { enough = λ U l q. ok_19 e q; settled = λ U V nay. refl })))
+    (λ p. lawful_steady 0 (eqb p 0) (λ W. Ok e) (λ t. record { enough = λ U l q. cc; settled = λ U V nay. refl })))
 
 new_steady : (k t r : ℕ) (a : Told) → Steady 136 (new_at k t r a)
 new_steady k t r a =
@@ -98,7 +95,7 @@ placed_19 place (Err q) p = let e : q ≡ 19 = cc in ap (λ (n : ℕ). Err n) e
 
 -- whether a reading misses bits
 misses : (r : Reading) (P : Type 0) → ((r ≡ Err 19 → ⊥) → P → ⊥) → P → r ≡ Err 19
-misses (Ok e) P h p = absurd (h (λ q. ok_19 e q) p)
+misses (Ok e) P h p = absurd (h (λ q. cc) p)
 misses (Err q) P h p =
     elim (cases_eq q 19) [
       | inl e ↦ ap (λ (n : ℕ). Err n) e
