@@ -6,7 +6,7 @@ use Rattle.answer.specs.Told.{Told, granted, refused}
 use Rattle.formula.specs.Keeping.{kept}
 use Rattle.docket.specs.Bits.{unpack, number}
 use Rattle.docket.specs.Entries.{Plain, asked, brings, pad_size}
-use Rattle.docket.specs.Reading.{Reading, field, lawful, words_at, question_at, answer_at, pad_at, made, new_at, told_at, record_at, task_at, entry_at, refusal, placed_at, read_at}
+use Rattle.docket.specs.Reading.{Reading, field, lawful, words_at, answer_at, pad_at, made, new_at, told_at, record_at, task_at, entry_at, refusal, placed_at, read_at}
 use Rattle.docket.specs.Laws.{MissingWhereMoreMatters}
 use Rattle.docket.proofs.Rows.{length_unpack, unpack_append}
 use Rattle.docket.proofs.Packing.{pad_most, brings_one}
@@ -56,32 +56,29 @@ cond_steady m false f g hf hg = hg
 words_steady : (n m : ℕ) (next : List ℕ → List ℕ → Reading) → ((vs : List ℕ) → Steady m (next vs)) → Steady (16 * n + m) (λ U. words_at n U next)
 words_steady zero m next h = more m (16 * zero + m) (next []) (omega arith) (h [])
 words_steady (suc n) m next h =
-    more (16 + (16 * n + m)) (16 * suc n + m) (λ U. words_at (suc n) U next) (omega arith)
-    (field_steady 16 (16 * n + m) (λ v W. words_at n W (λ vs X. next (v ∷ vs) X))
-    (λ v. words_steady n m (λ vs X. next (v ∷ vs) X) (λ vs. h (v ∷ vs))))
+    more (16 + (16 * n + m)) (16 * suc n + m) _ (omega arith)
+    (field_steady 16 (16 * n + m) _ (λ v. words_steady n m _ (λ vs. h (v ∷ vs))))
 
 pad_steady : (e : Plain) → Steady 4 (pad_at e)
 pad_steady e =
-    more (pad_size e.answer + 0) 4 (pad_at e) (omega (arith, pad_most e.answer))
-    (field_steady (pad_size e.answer) 0 (λ p W. lawful (eqb p 0) (Ok e))
+    more (pad_size e.answer + 0) 4 _ (omega (arith, pad_most e.answer))
+    (field_steady (pad_size e.answer) 0 _
     (λ p. lawful_steady 0 (eqb p 0) (λ W. Ok e) (λ t. record { enough = λ U l q. cc; settled = λ U V nay. refl })))
 
 new_steady : (k t r : ℕ) (a : Told) → Steady 136 (new_at k t r a)
 new_steady k t r a =
-    field_steady 4 132 (λ n W. lawful (leb n 8) (words_at n W (λ cs X. lawful (kept cs) (pad_at (made k t r a cs) X))))
-    (λ n. lawful_steady 132 (leb n 8) (λ W. words_at n W (λ cs X. lawful (kept cs) (pad_at (made k t r a cs) X)))
-    (λ p. more (16 * n + 4) 132 (λ W. words_at n W (λ cs X. lawful (kept cs) (pad_at (made k t r a cs) X))) (omega (arith, leb-true n 8 p))
-    (words_steady n 4 (λ cs X. lawful (kept cs) (pad_at (made k t r a cs) X))
-    (λ cs. lawful_steady 4 (kept cs) (pad_at (made k t r a cs)) (λ h. pad_steady (made k t r a cs))))))
+    field_steady 4 132 _
+    (λ n. lawful_steady 132 (leb n 8) _
+    (λ p. more (16 * n + 4) 132 _ (omega (arith, leb-true n 8 p))
+    (words_steady n 4 _ (λ cs. lawful_steady 4 (kept cs) _ (λ h. pad_steady (made k t r a cs))))))
 
 answer_steady : (next : Told → List ℕ → Reading) → ((a : Told) → Steady 136 (next a)) → Steady 158 (λ U. answer_at U next)
 answer_steady next h =
-    field_steady 1 157 (λ b W. cond (eqb b 1) (next (granted []) W) (question_at W next))
-    (λ b. cond_steady 157 (eqb b 1) (next (granted [])) (λ W. question_at W next) (more 136 157 (next (granted [])) (omega arith) (h (granted [])))
-    (field_steady 5 152 (λ q W. lawful (asked q) (words_at (brings q) W (λ vs X. next (refused q vs) X)))
-    (λ q. lawful_steady 152 (asked q) (λ W. words_at (brings q) W (λ vs X. next (refused q vs) X))
-    (λ _. more (16 * brings q + 136) 152 (λ W. words_at (brings q) W (λ vs X. next (refused q vs) X)) (omega (arith, brings_one q))
-    (words_steady (brings q) 136 (λ vs X. next (refused q vs) X) (λ vs. h (refused q vs)))))))
+    field_steady 1 157 _
+    (λ b. cond_steady 157 (eqb b 1) _ _ (more 136 157 _ (omega arith) (h (granted [])))
+    (field_steady 5 152 _
+    (λ q. lawful_steady 152 (asked q) _
+    (λ _. more (16 * brings q + 136) 152 _ (omega (arith, brings_one q)) (words_steady (brings q) 136 _ (λ vs. h (refused q vs)))))))
 
 steady : Steady 168 entry_at
 steady =
