@@ -1,5 +1,4 @@
 ghost use Rattle.std.specs.Prelude.{◌≡◌};
-ghost use Rattle.std.specs.Str.{bytes_eq};
 ghost use Rattle.lines.specs.Forms.{puts, drops, enter_form, open_form, close_form, take_form, put_form, drop_form, show_form, form_of};
 ghost use Rattle.lines.specs.Left.{pair_said, change_form, say_in};
 
@@ -94,12 +93,6 @@ fn change<'a>(kind: Kind, words: &mut WordsLeft<'a>) -> Option<Call<'a>>
     })
 }
 
-fn is_name(word: &[u8], name: &[u8]) -> bool
-    ensures { result ≡ bytes_eq word.now name.now }
-{
-    word == name
-}
-
 /// The call that a line writes, if the line has one of the forms.
 pub fn parse(line: &[u8]) -> Option<Call<'_>>
     ensures { say_in result ≡ form_of line.now }
@@ -108,23 +101,26 @@ pub fn parse(line: &[u8]) -> Option<Call<'_>>
         return None;
     }
     let mut words = WordsLeft::new(line);
-    // One comparison after another: a match on the byte strings has forty ways to its last arm, each to be proved.
-    match words.word()? {
-        word if is_name(word, b"enter") => enter(&mut words),
-        word if is_name(word, b"open") => open(&mut words),
-        word if is_name(word, b"close") => close(&mut words),
-        word if is_name(word, b"take") => take(&mut words),
-        word if is_name(word, b"put") => {
+    let Ok(name) = str::from_utf8(words.word()?) else {
+        return None;
+    };
+    // By text, one name after another: a match on byte strings has forty ways to its last arm, each to be proved.
+    match name {
+        "enter" => enter(&mut words),
+        "open" => open(&mut words),
+        "close" => close(&mut words),
+        "take" => take(&mut words),
+        "put" => {
             let (task, record) = task_and_record(&mut words)?;
             Some(Call::Put { task, record })
         }
-        word if is_name(word, b"drop") => {
+        "drop" => {
             let (task, record) = task_and_record(&mut words)?;
             Some(Call::Drop { task, record })
         }
-        word if is_name(word, b"show") => show(&mut words),
-        word if is_name(word, b"release") => change(Kind::Release, &mut words),
-        word if is_name(word, b"endorse") => change(Kind::Endorse, &mut words),
+        "show" => show(&mut words),
+        "release" => change(Kind::Release, &mut words),
+        "endorse" => change(Kind::Endorse, &mut words),
         _ => None,
     }
 }

@@ -43,7 +43,7 @@ impl<'a> WordsLeft<'a> {
         Some(word)
     }
 
-    // One method for each kind of word: one that takes the reader of a kind as a closure would say no more.
+    // `number`, `group`, `formula`, `mode` stay: `read(number)` fails, as no other crate's function goes in by its name.
     pub(crate) fn number(&mut self) -> Option<u64>
         ensures { Taken decimal self.old result self.new }
     {
