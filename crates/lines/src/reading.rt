@@ -1,3 +1,7 @@
+ghost use Rattle.std.specs.Prelude.{◌≡◌};
+ghost use Rattle.answer.specs.Told.{says};
+ghost use Rattle.formula.specs.Of.{clauses_of};
+ghost use Rattle.formula.specs.Forms.{reduces};
 ghost use Rattle.lines.specs.Left.{key_say};
 ghost use Rattle.lines.specs.Keys.{LabelRead, BoundsRead, BoundedRead, KeyRead};
 ghost use Rattle.words.specs.Formulas.{written};
@@ -8,6 +12,16 @@ use answer::Refusal;
 use formula::Formula;
 use key::{Bounded, Bounds, Key, Plain, Robust};
 use label::{Hand, Label, Sight};
+use words::FormulaWord;
+
+/// The plain key that a formula makes.
+// A function and no `TryFrom`, as both types are of other crates.
+fn read_plain(word: FormulaWord<'_>) -> Result<Plain, Refusal>
+    ensures { says (λ k. clauses_of k.formula) result ≡ reduces (written word.entry) }
+{
+    let formula = Formula::try_from(word)?;
+    Ok(Plain { formula })
+}
 
 /// The label that a line writes, with its formulas reduced from left to right.
 impl TryFrom<LabelWords<'_>> for Label {
@@ -54,8 +68,7 @@ impl TryFrom<KeyWords<'_>> for LineKey {
     ghost try_from_gives = { λ words r. KeyRead (key_say words) r };
 
     fn try_from(words: KeyWords<'_>) -> Result<LineKey, Refusal> {
-        let formula = Formula::try_from(words.plain)?;
-        let below = Plain { formula };
+        let below = read_plain(words.plain)?;
         match (words.robust, words.bounds) {
             (None, None) => Ok(LineKey::Plain(below)),
             (Some(mode), None) => Ok(LineKey::Robust(Robust { below, mode })),

@@ -34,29 +34,29 @@ pub returns-in_err-read_bounded-in-None-Some : goal.returns-in_err-read_bounded-
 returns-in_err-read_bounded-in-None-Some c =
     let p = err_from_is_err_and c.from_residual-in_err-read_bounded-in-None-Some.result c.from_residual-in_err-read_bounded-in-None-Some.ensures.1 in
     let a = c.in-None-Some in
-    let f = clauses_of c.in_ok-formula.formula in
+    let f = clauses_of c.in_ok-below.below.formula in
     rw (p.1, p.2, a.is-0, a.is-1)
-    (unwrapped (plains (written c.args.words.plain)) (plain f) a.words _ (read_plain (written c.args.words.plain) f c.in_ok-formula.ensures) c.in_err-read_bounded-in-None-Some.ensures)
+    (unwrapped (plains (written c.args.words.plain)) (plain f) a.words _ (read_plain (written c.args.words.plain) f c.in_ok-below.ensures) c.in_err-read_bounded-in-None-Some.ensures)
 
 pub returns-in_err-read_bounded-in-Some-Some : goal.returns-in_err-read_bounded-in-Some-Some
 returns-in_err-read_bounded-in-Some-Some c =
     let p = err_from_is_err_and c.from_residual-in_err-read_bounded-in-Some-Some.result c.from_residual-in_err-read_bounded-in-Some-Some.ensures.1 in
     let a = c.in-Some-Some in
-    let f = clauses_of c.in_ok-formula.formula in
+    let f = clauses_of c.in_ok-below.below.formula in
     rw (p.1, p.2, a.is-0, a.is-1)
-    (unwrapped (robusts a.mode (plains (written c.args.words.plain))) (robust a.mode (plain f)) a.words _ (λ t next. read_plain (written c.args.words.plain) f c.in_ok-formula.ensures t (λ m. next (robust a.mode m))) c.in_err-read_bounded-in-Some-Some.ensures)
+    (unwrapped (robusts a.mode (plains (written c.args.words.plain))) (robust a.mode (plain f)) a.words _ (λ t next. read_plain (written c.args.words.plain) f c.in_ok-below.ensures t (λ m. next (robust a.mode m))) c.in_err-read_bounded-in-Some-Some.ensures)
 
 pub returns-in_ok-read_bounded-in-None-Some : goal.returns-in_ok-read_bounded-in-None-Some
 returns-in_ok-read_bounded-in-None-Some c =
     let a = c.in-None-Some in
     let e = c.in_ok-read_bounded-in-None-Some.ensures in
-    let f = clauses_of c.in_ok-formula.formula in
-    rw (a.is-0, a.is-1, e.0, e.1) (wrapped (plains (written c.args.words.plain)) (plain f) a.words _ (read_plain (written c.args.words.plain) f c.in_ok-formula.ensures) e.2)
+    let f = clauses_of c.in_ok-below.below.formula in
+    rw (a.is-0, a.is-1, e.0, e.1) (wrapped (plains (written c.args.words.plain)) (plain f) a.words _ (read_plain (written c.args.words.plain) f c.in_ok-below.ensures) e.2)
 
 pub returns-in_ok-read_bounded-in-Some-Some : goal.returns-in_ok-read_bounded-in-Some-Some
 returns-in_ok-read_bounded-in-Some-Some c =
     let a = c.in-Some-Some in
     let e = c.in_ok-read_bounded-in-Some-Some.ensures in
-    let f = clauses_of c.in_ok-formula.formula in
+    let f = clauses_of c.in_ok-below.below.formula in
     rw (a.is-0, a.is-1, e.0, e.1)
-    (wrapped (robusts a.mode (plains (written c.args.words.plain))) (robust a.mode (plain f)) a.words _ (λ t next. read_plain (written c.args.words.plain) f c.in_ok-formula.ensures t (λ m. next (robust a.mode m))) e.2)
+    (wrapped (robusts a.mode (plains (written c.args.words.plain))) (robust a.mode (plain f)) a.words _ (λ t next. read_plain (written c.args.words.plain) f c.in_ok-below.ensures t (λ m. next (robust a.mode m))) e.2)
