@@ -63,7 +63,8 @@ pub enum Refusal {
 }
 
 /// What a call answers.
-// Three outcomes by name, each with its row in the one table of answers; std's `Display` could not be for a `Result`.
+// Three outcomes by name, each with its row in `told`, the one table by which contracts read answers (so no model);
+// std's `Display` could not be for a `Result`.
 #[derive(Clone, Copy)]
 pub enum Answer {
     /// The call is done.

@@ -37,6 +37,7 @@ pub fn meets(clauses: &[u16], group: u16) -> bool
 }
 
 /// Tells whether `group` meets both lists.
+// Two lists and no type for the pair: nothing else is ever said of the two together.
 pub fn meets_both(a: &[u16], b: &[u16], group: u16) -> bool
     ensures { Decides result (Meets a.now group × Meets b.now group) }
 {

@@ -5,10 +5,7 @@ ghost use Rattle.exports.specs.Comparing.{formula_from, outcome_of, compared, co
 
 use answer::Refusal;
 use arrayvec::ArrayVec;
-use formula::Formula;
-
-/// The longest list that is compared.
-const LONGEST: usize = 64;
+use formula::{Formula, LONGEST};
 
 /// Tells whether one list of clauses implies another, two bytes a clause, high byte first.
 pub fn yard_compare(first: &[u8], second: &[u8]) -> u32

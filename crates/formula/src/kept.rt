@@ -10,6 +10,7 @@ ghost use Rattle.std.specs.Prelude.{◌≡◌, ◌≤◌, length};
 ghost use Rattle.formula.specs.Kept.{Unused, Rising, Apart, Sixteen};
 
 pub use equal::equality_is_meaning;
+pub use reduce::LONGEST;
 
 /// A formula in its kept form: at most eight clauses, rising by number, none containing another.
 /// Unused places hold 0, so that formulas with the same clauses are the same value.

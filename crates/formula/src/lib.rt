@@ -4,5 +4,5 @@
 mod kept;
 mod party;
 
-pub use kept::{Formula, equality_is_meaning};
+pub use kept::{Formula, LONGEST, equality_is_meaning};
 pub use party::Party;

@@ -15,7 +15,7 @@ use formula::Formula;
 #[derive(Clone, Copy)]
 pub struct Hand(pub Formula);
 
-// A rule of the project: a wrong test is refused at a contract of its own and not in a proof first, so each stands apart.
+// A rule of the project: a wrong test is refused at its own contract and not in a proof first, so each stands apart.
 impl Hand {
     /// Tells whether `group` has a hand.
     pub(crate) fn has(&self, group: u16) -> bool

@@ -14,7 +14,7 @@ use formula::Formula;
 #[derive(Clone, Copy)]
 pub struct Sight(pub Formula);
 
-// A rule of the project: a wrong test is refused at a contract of its own and not in a proof first, so each stands apart.
+// A rule of the project: a wrong test is refused at its own contract and not in a proof first, so each stands apart.
 impl Sight {
     /// Tells whether `group` sees.
     pub(crate) fn sees(&self, group: u16) -> bool

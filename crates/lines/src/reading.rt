@@ -14,7 +14,7 @@ use key::{Bounded, Bounds, Key, Plain, Robust};
 use label::{Hand, Label, Sight};
 use words::FormulaWord;
 
-/// The plain key that a formula makes.
+/// The plain key of the formula that a word writes.
 // A function and no `TryFrom`, as both types are of other crates.
 fn read_plain(word: FormulaWord<'_>) -> Result<Plain, Refusal>
     ensures { says (λ k. clauses_of k.formula) result ≡ reduces (written word.entry) }

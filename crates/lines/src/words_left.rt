@@ -43,7 +43,7 @@ impl<'a> WordsLeft<'a> {
         Some(word)
     }
 
-    // `number`, `group`, `formula`, `mode` stay: `read(number)` fails, as no other crate's function goes in by its name.
+    // One line each: a common reader would take a closure at each call, as no function of another crate goes in by name.
     pub(crate) fn number(&mut self) -> Option<u64>
         ensures { Taken decimal self.old result self.new }
     {

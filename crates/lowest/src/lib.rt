@@ -14,6 +14,7 @@ fn without(group: u16, party: u32) -> u16
     group & !(1 << party)
 }
 
+// Two lists and no type for the pair, as in `clause`.
 /// The lowest group inside `allowed` that meets each of both lists. A larger group meets what a
 /// smaller one meets, so each party is left out where the rest will do, from the highest down.
 fn lowest_within(allowed: u16, needs: &[u16], more: &[u16]) -> Option<u16>

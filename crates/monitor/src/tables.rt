@@ -21,6 +21,7 @@ pub struct Held {
 }
 
 /// Places by number. A record is empty or filled; a task is closed (empty) or open (filled).
+// An array and no map: each number below N is a place, and there is no heap.
 #[derive(Clone, Copy)]
 pub struct Table<const N: usize> {
     slots: [Option<Held>; N],

@@ -25,7 +25,7 @@ pub fn next_line<R: BufRead>(input: &mut R, line: &mut Vec<u8>) -> io::Result<bo
 {
     line.clear();
     // A loop over input needs a count. With `read_until`, which looks at each byte by itself, the program
-    // took a fifth longer.
+    // took up to a fifth longer.
     for _ in 0..u64::MAX {
         let held = match input.fill_buf() {
             Ok(held) => held,

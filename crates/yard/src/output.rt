@@ -31,7 +31,7 @@ pub struct Output {
     out: Stdout,
     docket: Option<Docket>,
     answers: String,
-    /// Adds to each refusal what it means.
+    /// Whether each refusal gets what it means.
     explain: bool,
 }
 

@@ -4,7 +4,7 @@ ghost use Rattle.formula.specs.Of.{clauses_of};
 
 use super::Formula;
 
-// The fields are cut here: behind `as_slice` a wrong argument would be refused in a proof first, and not at its contract.
+// The fields are cut here: behind `as_slice` a wrong argument would be refused in a proof first, not at its contract.
 impl Formula {
     /// Tells whether `group` shares a party with each clause.
     pub fn meets(self, group: u16) -> bool

@@ -9,7 +9,7 @@ use super::Formula;
 use answer::Refusal;
 
 /// The longest list that is reduced.
-const LONGEST: usize = 64;
+pub const LONGEST: usize = 64;
 
 impl Formula {
     /// The kept form of a list of clauses.

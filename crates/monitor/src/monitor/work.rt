@@ -11,6 +11,7 @@ use answer::Refusal;
 
 impl Monitor {
     /// Joins the record's label into the task's, and works its figure into the task's.
+    // The manner comes as a number: a narrower type would ask more of callers, and its question is the last but one.
     pub fn take(&mut self, task: u64, record: u64, manner: u64) -> Result<(), Refusal>
         ensures answer { says nothing result ≡ (taking (view self.old.tables) task «record» manner).answer }
         ensures after { view self.new.tables ≡ (taking (view self.old.tables) task «record» manner).state }

@@ -8,10 +8,7 @@ use super::{ClausesWord, FormulaWord};
 use crate::hex_four;
 use answer::Refusal;
 use arrayvec::ArrayVec;
-use formula::Formula;
-
-/// As many clauses as a list that is reduced can have.
-const LONGEST: usize = 64;
+use formula::{Formula, LONGEST};
 
 impl ClausesWord<'_> {
     /// The clauses, reduced.

@@ -36,8 +36,8 @@ impl<'a> ClausesWord<'a> {
 }
 
 impl<'a> FormulaWord<'a> {
-    /// The clauses of any part of a line, to make a `Formula` of; a part that writes none counts as True.
-    // Public, as any part can be read so: clauses stand in a `ClausesWord` by its type, and only this crate makes one.
+    /// The formula word of any part of a line; a part where no clauses stand counts as True.
+    // Public, as others can make no `ClausesWord` of a part.
     pub fn of_part(part: &'a [u8]) -> FormulaWord<'a>
         ensures { written result ≡ or_none (hex_all (parted 46 part.now)) }
     {
