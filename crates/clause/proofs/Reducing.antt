@@ -16,6 +16,9 @@ pub record Chosen (list : List ℕ) (v : ℕ → ℕ) (n : ℕ) : Type 0 where
   pub minimal : (i : ℕ) → i < n → (k : ℕ) → k < length list → Part (get_or list k 0) (v i) → get_or list k 0 ≡ v i
   pub above : (k : ℕ) → k < length list → ((i : ℕ) → i < n → Part (v i) (get_or list k 0) → ⊥) → (i : ℕ) → i < n → v i < get_or list k 0
 
+pub chosen_none : (list : List ℕ) (v : ℕ → ℕ) → Chosen list v 0
+chosen_none list v = record { rising = λ i j l h. omega arith; apart = λ i j l h. omega arith; from = λ i h. absurd (omega arith); minimal = λ i h. absurd (omega arith); above = λ k l f i h. omega arith }
+
 module _ (list : List ℕ) (v v' : ℕ → ℕ) (n c : ℕ) (old : (i : ℕ) → i < n → v' i ≡ v i) (at : v' n ≡ c) where
   pub chosen_more : Chosen list v n
       → (k : ℕ) → k < length list → get_or list k 0 ≡ c

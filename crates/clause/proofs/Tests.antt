@@ -53,6 +53,44 @@ both_imply_is r a b goal d =
     (λ g. Decides-and (met a g) (met b g) (met_decides a g) (met_decides b g)) (met_decides goal)
     (Decides-like r (λ h g l m. h g l m.0 m.1) (λ h g l m k. h g l (m, k)) d)
 
+-- nobody who gains has one of two hands: told hand by hand
+pub hand_by_hand : (n o h k : ℕ → Bool) → (within (λ g. n g && h g) o && within (λ g. n g && k g) o) ≡ nobody (λ g. (n g && not (o g)) && (h g || k g))
+hand_by_hand n o h k =
+    same_from_decides _ _
+    (Decides-and (within (λ g. n g && h g) o) (within (λ g. n g && k g) o) (within_decides (λ g. n g && h g) o) (within_decides (λ g. n g && k g) o))
+    (Decides-like (nobody (λ g. (n g && not (o g)) && (h g || k g)))
+    (λ f. (λ g l e. one (n g) (o g) (h g) (k g) (f g l) e, λ g l e. two (n g) (o g) (h g) (k g) (f g l) e))
+    (λ f g l e. none (n g) (o g) (h g) (k g) (f.0 g l) (f.1 g l) e)
+    (nobody_decides (λ g. (n g && not (o g)) && (h g || k g))))
+  where
+    one : (n o h k : Bool) → (((n && not o) && (h || k)) ≡ true → ⊥) → (n && h) ≡ true → o ≡ true
+    one true true true k f e = refl
+    one true false true k f e = absurd (f refl)
+    one true o false k f e = absurd (true≢false (sym e))
+    one false o h k f e = absurd (true≢false (sym e))
+
+    two : (n o h k : Bool) → (((n && not o) && (h || k)) ≡ true → ⊥) → (n && k) ≡ true → o ≡ true
+    two true true h true f e = refl
+    two true false true true f e = absurd (f refl)
+    two true false false true f e = absurd (f refl)
+    two true o h false f e = absurd (true≢false (sym e))
+    two false o h k f e = absurd (true≢false (sym e))
+
+    none : (n o h k : Bool) → ((n && h) ≡ true → o ≡ true) → ((n && k) ≡ true → o ≡ true) → ((n && not o) && (h || k)) ≡ true → ⊥
+    none true true h k f q e = true≢false (sym e)
+    none true false true k f q e = true≢false (sym (f refl))
+    none true false false true f q e = true≢false (sym (q refl))
+    none true false false false f q e = true≢false (sym e)
+    none false o h k f q e = true≢false (sym e)
+
+pub and_yes : (x y r : Bool) → true ≡ x → r ≡ y → r ≡ (x && y)
+and_yes true y r e f = f
+and_yes false y r e f = absurd (true≢false e)
+
+pub and_no : (x y r : Bool) → false ≡ x → r ≡ false → r ≡ (x && y)
+and_no true y r e f = absurd (true≢false (sym e))
+and_no false y r e f = f
+
 -- a group meets a formula or does not
 pub decided : (cs : List ℕ) (g : ℕ) → Meets cs g ⊎ (Meets cs g → ⊥)
 decided cs g =

@@ -5,8 +5,8 @@
 
 ghost use Rattle.std.specs.Prelude.{◌<◌};
 
+use arrayvec::ArrayVec;
 use docket::{Entry, Found, read_entry, write_entry};
-use std::alloc::{AllocError, Global};
 use std::io;
 use std::io::{BufRead, BufReader, BufWriter, Write};
 
@@ -14,11 +14,11 @@ fn main(rt: HostRuntime) -> io::Result<()> {
     let mut out = BufWriter::new(rt.alloc(), rt.stdout())?;
     for line in BufReader::new(rt.alloc(), rt.stdin())?.lines(rt.alloc()) {
         let line = line?;
-        let bytes = bytes_of(rt.alloc(), line.as_bytes())?;
+        let bytes = bytes_of(line.as_bytes());
         match read_entry(bytes.as_slice(), 0) {
             Ok(Some(Found { entry, next })) => {
-                let again = written(rt.alloc(), &entry)?;
-                writeln!(out, "{line} {entry} next {next} as {again}")?;
+                write!(out, "{line} {entry} next {next} as ")?;
+                write_again(&mut out, &entry)?;
             }
             Ok(None) => writeln!(out, "{line} over")?,
             Err(refusal) => writeln!(out, "{line} {}", refusal.number())?,
@@ -28,12 +28,14 @@ fn main(rt: HostRuntime) -> io::Result<()> {
 }
 
 /// The bytes that pairs of digits write, at most 32.
-fn bytes_of(alloc: Global, digits: &[u8]) -> Result<Vec<u8>, AllocError> {
-    let mut bytes = Vec::new(alloc);
-    for &[high, low] in digits.as_chunks::<2>().0.iter().take(32) {
-        bytes.push(digit(high) * 16 + digit(low))?;
+fn bytes_of(digits: &[u8]) -> ArrayVec<u8, 32> {
+    let pairs = digits.as_chunks::<2>().0;
+    let mut bytes = ArrayVec::from([0; 32]);
+    for (byte, &[high, low]) in bytes.as_mut_slice().iter_mut().zip(pairs) {
+        *byte = digit(high) * 16 + digit(low);
     }
-    Ok(bytes)
+    bytes.truncate(pairs.len());
+    bytes
 }
 
 /// The value of a hexadecimal digit.
@@ -48,10 +50,13 @@ fn digit(c: u8) -> u8
     }
 }
 
-/// The bytes that the writer makes of an entry, in hexadecimal digits.
-fn written(alloc: Global, entry: &Entry) -> Result<String, AllocError> {
+/// Prints the bytes that the writer makes of an entry, in hexadecimal digits.
+fn write_again<W: Write>(out: &mut W, entry: &Entry) -> io::Result<()> {
     // `write_entry` is what is tried here: it fills what it is lent, and answers where the entry ends
     let mut bytes = [0; 21];
     let end = write_entry(&mut bytes, 0, entry).unwrap_or(0);
-    hex::encode(alloc, bytes.get(..end as usize).unwrap_or_default())
+    for byte in bytes.get(..end as usize).unwrap_or_default() {
+        write!(out, "{byte:02x}")?;
+    }
+    writeln!(out)
 }

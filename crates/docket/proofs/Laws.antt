@@ -3,6 +3,7 @@ use Rattle.std.proofs.Common.{◌≡◌, ℕ, List, sym}
 use Rattle.docket.specs.Reading.{Standing, entry, over, refusal, read_at}
 use Rattle.docket.specs.Laws.{Bytes, WasWritten, DocketLaws}
 use Rattle.docket.proofs.Whole.{bytes_are_bits, reads_back, read_was_written, told_apart, docket_reads_back, docket_was_written, over_end}
+use Rattle.docket.proofs.Packing.{length_answer}
 use Rattle.docket.proofs.Filing.{written_reads_back}
 use Rattle.docket.proofs.Settles.{missing}
 
@@ -10,6 +11,7 @@ pub laws : DocketLaws
 laws =
     record {
       bytes_are_bits = bytes_are_bits;
+      answers_sized = length_answer;
       reads_back = reads_back;
       read_was_written = read_was_written;
       told_apart = told_apart;

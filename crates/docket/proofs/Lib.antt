@@ -5,7 +5,7 @@ mod Placing
 mod Forth
 mod Back
 mod Taking
-mod Packing
+pub mod Packing
 mod Whole
 mod Settles
 mod Filing

@@ -9,17 +9,17 @@ use Rattle.docket.specs.Laws.{Bytes}
 use Rattle.docket.proofs.Rows.{length_bits}
 use Rattle.docket.proofs.Numbers.{Bits, Bits-append, bits_bits, bits_taken, number_bits}
 
-length_packed : (n : ℕ) (U : List ℕ) → length (packed n U) ≡ n
+pub length_packed : (n : ℕ) (U : List ℕ) → length (packed n U) ≡ n
 length_packed zero U = refl
 length_packed (suc n) U = ap suc (length_packed n (drop 8 U))
 
-unpack_packed : (n : ℕ) (U : List ℕ) → Bits U → length U ≡ 8 * n → unpack (packed n U) ≡ U
+pub unpack_packed : (n : ℕ) (U : List ℕ) → Bits U → length U ≡ 8 * n → unpack (packed n U) ≡ U
 unpack_packed zero U b l = sym (nil_from_length U (omega arith))
 unpack_packed (suc n) U b l =
     let back = unpack_packed n (drop 8 U) (All-drop (λ b. b < 2) 8 U b) (omega (arith, length-drop 8 U)) in
     ap (λ (x : List ℕ). x ++ unpack (packed n (drop 8 U))) (bits_taken 8 U b (omega arith)) ∙ (ap (λ (x : List ℕ). take 8 U ++ x) back ∙ take-append-drop 8 U)
 
-packed_unpack : (bs : List ℕ) → Bytes bs → packed (length bs) (unpack bs) ≡ bs
+pub packed_unpack : (bs : List ℕ) → Bytes bs → packed (length bs) (unpack bs) ≡ bs
 packed_unpack [] h = refl
 packed_unpack (b ∷ bs) h =
     let x : number (take 8 (unpack (b ∷ bs))) ≡ b = ap number (take_at (bits 8 b) (unpack bs) 8 refl) ∙ number_bits 8 b h.0 in

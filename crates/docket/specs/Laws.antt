@@ -4,7 +4,7 @@ use Rattle.std.specs.List.{AllByRecursion}
 use Rattle.answer.specs.Told.{Told, granted, refused}
 use Rattle.formula.specs.Keeping.{kept}
 use Rattle.docket.specs.Bits.{unpack}
-use Rattle.docket.specs.Entries.{Plain, carries, size_of, entry_bits, entry_bytes}
+use Rattle.docket.specs.Entries.{Plain, carries, answer_bits, answer_size, size_of, entry_bits, entry_bytes}
 use Rattle.docket.specs.Writing.{written}
 use Rattle.docket.specs.Reading.{Standing, entry, over, refusal, read_at}
 
@@ -31,6 +31,10 @@ pub record Carried (e : Plain) : Type 0 where
 abbrev pub BytesAreBits : Type 0
 BytesAreBits =
     (e : Plain) → (unpack (entry_bytes e) ≡ entry_bits e) × (length (entry_bytes e) ≡ size_of e) × (Carried e → size_of e ≤ 21)
+
+-- an answer takes as many bits as is said of it
+abbrev pub AnswersSized : Type 0
+AnswersSized = (a : Told) → length (answer_bits a) ≡ answer_size a
 
 -- what is written is read back, whatever stands before and after it
 abbrev pub EntryReadsBack : Type 0
@@ -98,6 +102,7 @@ MissingWhereMoreMatters =
 -- all of them
 pub record DocketLaws : Type 0 where
   pub bytes_are_bits : BytesAreBits
+  pub answers_sized : AnswersSized
   pub reads_back : EntryReadsBack
   pub read_was_written : ReadWasWritten
   pub told_apart : ToldApart

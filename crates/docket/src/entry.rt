@@ -22,7 +22,7 @@ pub struct Found {
 }
 
 /// How many bytes the longest entry has.
-pub(crate) const LONGEST: usize = 21;
+pub const LONGEST: usize = 21;
 
 /// An entry as it stands in the docket.
 pub type EntryBytes = ArrayVec<u8, LONGEST>;

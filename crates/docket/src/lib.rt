@@ -9,6 +9,6 @@ mod read;
 mod text;
 mod write;
 
-pub use entry::{Entry, EntryBytes, Found};
+pub use entry::{Entry, EntryBytes, Found, LONGEST};
 pub use read::read_entry;
 pub use write::{entry_bytes, write_entry};

@@ -46,15 +46,17 @@ fn compare(first: &[u8], second: &[u8]) -> Result<bool, Unread>
 fn formula_from(bytes: &[u8]) -> Result<Formula, Refusal>
     ensures { says clauses_of result ≡ formula_from bytes.now }
 {
-    let (pairs, odd) = bytes.as_chunks::<2>();
-    if !odd.is_empty() {
+    // what is refused is refused before any byte is looked at
+    if bytes.len() % 2 != 0 {
         return Err(Refusal::Missing);
     }
+    if bytes.len() > 2 * LONGEST {
+        return Err(Refusal::LongList);
+    }
+    let (pairs, _) = bytes.as_chunks::<2>();
     let mut clauses = ArrayVec::<u16, LONGEST>::new();
     for &pair in pairs {
-        clauses
-            .try_push(u16::from_be_bytes(pair))
-            .map_err(|_| Refusal::LongList)?;
+        clauses.push(u16::from_be_bytes(pair));
     }
     Formula::reduce(clauses.as_slice())
 }

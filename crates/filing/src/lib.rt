@@ -4,4 +4,4 @@
 mod entry;
 mod filed;
 
-pub use filed::file_line;
+pub use filed::{Filed, file_line};

@@ -16,7 +16,7 @@ pub use reduce::LONGEST;
 /// Unused places hold 0, so that formulas with the same clauses are the same value.
 // An array with a length, as it is passed by value and takes no heap; and no model, whose values would be all lists of
 // clauses, while what is said of every formula holds of kept forms alone.
-#[derive(Clone, Copy, PartialEq, Eq)]
+#[derive(Clone, Copy)]
 pub struct Formula {
     clauses: [u16; 8],
     count: usize,

@@ -2,6 +2,7 @@
 use Rattle.std.proofs.Common.{ℕ, ◌<◌, List, [], ◌∷◌, get_or, refl, ap, arith, lit<, lit≤}
 use mathlib.Core.Bool.{false≢true}
 use Rattle.std.specs.Fmt.{digits}
+use Rattle.answer.specs.Told.{refused}
 use Rattle.docket.specs.Reading.{Standing, entry, over, refusal}
 use Rattle.docket.specs.Laws.{Bytes, Carried, Stood}
 use Rattle.histories.specs.Dockets.{granting, steered, five, Written, Readings, Whole, Dockets}
@@ -116,6 +117,7 @@ whole =
       was_refused = tt;
       law_bits = λ law. (law.bytes_are_bits granting).0;
       law_length = λ law. (law.bytes_are_bits steered).1;
+      law_answer = λ law. law.answers_sized (refused 16 (1 ∷ []));
       law_longest = λ law e c. (law.bytes_are_bits e).2 c;
       law_reads = λ law. law.reads_back granting (9 ∷ []) (7 ∷ []) carried;
       law_stood = λ law. law.read_was_written (33 ∷ 98 ∷ 0 ∷ 6 ∷ []) 0 granting 4 small_bytes refl;

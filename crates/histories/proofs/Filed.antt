@@ -1,9 +1,9 @@
 -- The rows of the docket's lines, of C and of the monitor hold.
-use Rattle.std.proofs.Common.{◌≡◌, ℕ, ◌<◌, [], ◌∷◌, map, get_or, sym, refl, ap, ◌∙◌, true≢false, arith, lit<}
+use Rattle.std.proofs.Common.{◌≡◌, ℕ, ◌<◌, List, [], ◌∷◌, map, get_or, sym, refl, ap, ◌∙◌, true≢false, arith, lit<}
 use Rattle.answer.specs.Told.{Told, granted, refused, question_of}
 use Rattle.clause.specs.Groups.{least}
 use Rattle.label.specs.Labels.{Marks}
-use Rattle.rules.specs.State.{holds, blank}
+use Rattle.rules.specs.State.{Place, bounded, vacant, holds, blank}
 use Rattle.rules.specs.Step.{Ruled}
 use Rattle.rules.specs.Runs.{is_granted}
 use Rattle.monitor.specs.View.{place_of}
@@ -106,6 +106,8 @@ in_monitor =
       no_task = λ p s. let z : 8 < 8 = s.0 in omega arith;
       no_record = λ p s. let z : 64 < 64 = s.1 in omega arith;
       no_figure = λ f e. let small = f.small in omega arith;
+      no_record_figure = λ b t e. true≢false (sym ((b t).0 0) ∙ ap (λ (ps : List Place). bounded (get_or ps 0 vacant)) e);
+      no_task_figure = λ b t e. true≢false (sym ((b t).1 0) ∙ ap (λ (ps : List Place). bounded (get_or ps 0 vacant)) e);
       sound_refused = tt;
     }
 

@@ -179,6 +179,7 @@ pub record Whole : Type 0 where
   -- the laws
   pub law_bits : DocketLaws → unpack (33 ∷ 98 ∷ 0 ∷ 6 ∷ []) ≡ entry_bits granting
   pub law_length : DocketLaws → length (entry_bytes steered) ≡ 5
+  pub law_answer : DocketLaws → length (answer_bits (refused 16 (1 ∷ []))) ≡ 22
   pub law_longest : DocketLaws → (e : Plain) → Carried e → size_of e ≤ 21
   pub law_reads : DocketLaws → read_at (9 ∷ 33 ∷ 98 ∷ 0 ∷ 6 ∷ 7 ∷ []) 1 ≡ entry granting 5
   pub law_stood : DocketLaws → Stood (33 ∷ 98 ∷ 0 ∷ 6 ∷ []) 0 granting 4

@@ -11,7 +11,7 @@ use Rattle.monitor.specs.declared.tables.Held.{Held}
 use Rattle.monitor.specs.declared.figure.Figure.{Figure}
 use Rattle.monitor.specs.declared.monitor.manner.Manner.TheVariants.{Add, Subtract, Multiply}
 use Rattle.monitor.specs.Manner.{number_of}
-use Rattle.monitor.specs.View.{place_of, view}
+use Rattle.monitor.specs.View.{place_of, view, FiguresBounded}
 use Rattle.monitor.specs.Fetch.{Fetched, Sound}
 use Rattle.docket.specs.declared.entry.Entry.{Entry}
 use Rattle.docket.specs.Entries.{plain_of}
@@ -145,6 +145,8 @@ pub record InMonitor : Type 0 where
   pub no_task : (p : Pair) → Sound 8 0 (Ok p) → ⊥
   pub no_record : (p : Pair) → Sound 0 64 (Ok p) → ⊥
   pub no_figure : (f : Figure) → f.cents ≡ 1000000000 → ⊥
+  pub no_record_figure : FiguresBounded → (t : Tables) → (view t).records ≡ holds 1000000000 free ∷ [] → ⊥
+  pub no_task_figure : FiguresBounded → (t : Tables) → (view t).tasks ≡ holds 1000000000 free ∷ [] → ⊥
   pub sound_refused : Sound 9 99 (Err NoSuchNumber)
 
 pub record Filed : Type 0 where

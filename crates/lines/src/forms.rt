@@ -1,4 +1,5 @@
 ghost use Rattle.std.specs.Prelude.{◌≡◌};
+ghost use Rattle.std.specs.Str.{bytes_eq};
 ghost use Rattle.lines.specs.Forms.{puts, drops, enter_form, open_form, close_form, take_form, put_form, drop_form, show_form, form_of};
 ghost use Rattle.lines.specs.Left.{pair_said, change_form, say_in};
 
@@ -93,6 +94,13 @@ fn change<'a>(kind: Kind, words: &mut WordsLeft<'a>) -> Option<Call<'a>>
     })
 }
 
+/// Tells whether a word is that name.
+fn is_name(word: &[u8], name: &[u8]) -> bool
+    ensures { result ≡ bytes_eq word.now name.now }
+{
+    word == name
+}
+
 /// The call that a line writes, if the line has one of the forms.
 pub fn parse(line: &[u8]) -> Option<Call<'_>>
     ensures { say_in result ≡ form_of line.now }
@@ -101,26 +109,37 @@ pub fn parse(line: &[u8]) -> Option<Call<'_>>
         return None;
     }
     let mut words = WordsLeft::new(line);
-    let Ok(name) = str::from_utf8(words.word()?) else {
-        return None;
-    };
-    // By text, one name after another: a match on byte strings has forty ways to its last arm, each to be proved.
-    match name {
-        "enter" => enter(&mut words),
-        "open" => open(&mut words),
-        "close" => close(&mut words),
-        "take" => take(&mut words),
-        "put" => {
-            let (task, record) = task_and_record(&mut words)?;
-            Some(Call::Put { task, record })
-        }
-        "drop" => {
-            let (task, record) = task_and_record(&mut words)?;
-            Some(Call::Drop { task, record })
-        }
-        "show" => show(&mut words),
-        "release" => change(Kind::Release, &mut words),
-        "endorse" => change(Kind::Endorse, &mut words),
-        _ => None,
+    let word = words.word()?;
+    // One name after another: a `match` on byte strings has forty ways to its last arm, each to be proved, and a word
+    // would have to be gone through before it can be matched as text. A `return` each, as a call is large to hand on.
+    if is_name(word, b"enter") {
+        return enter(&mut words);
     }
+    if is_name(word, b"open") {
+        return open(&mut words);
+    }
+    if is_name(word, b"close") {
+        return close(&mut words);
+    }
+    if is_name(word, b"take") {
+        return take(&mut words);
+    }
+    if is_name(word, b"put") {
+        let (task, record) = task_and_record(&mut words)?;
+        return Some(Call::Put { task, record });
+    }
+    if is_name(word, b"drop") {
+        let (task, record) = task_and_record(&mut words)?;
+        return Some(Call::Drop { task, record });
+    }
+    if is_name(word, b"show") {
+        return show(&mut words);
+    }
+    if is_name(word, b"release") {
+        return change(Kind::Release, &mut words);
+    }
+    if is_name(word, b"endorse") {
+        return change(Kind::Endorse, &mut words);
+    }
+    None
 }

@@ -4,7 +4,7 @@
 
 ghost use Rattle.std.specs.Prelude.{◌≡◌, ◌-◌, ◌^◌, ◌<◌, not, ◌&&◌, bit_and};
 ghost use Rattle.clause.specs.Groups.{met, lowest, earlier as earlier_of};
-ghost use Rattle.lowest.specs.First.{First, Fitting};
+ghost use Rattle.lowest.specs.First.{First, Fitting, Missing};
 
 /// The group without one party.
 fn without(group: u16, party: u32) -> u16
@@ -45,7 +45,8 @@ pub fn earlier(a: Option<u16>, b: Option<u16>) -> Option<u16>
 
 /// The lowest group that meets each clause of `needs` and of `more`, and misses one of `missed`.
 pub fn lowest_missing(missed: &[u16], needs: &[u16], more: &[u16]) -> Option<u16>
-    ensures { result ≡ lowest (λ g. (met needs.now g && met more.now g) && not (met missed.now g)) }
+    ensures answer { result ≡ lowest (λ g. (met needs.now g && met more.now g) && not (met missed.now g)) }
+    ensures first { First (Missing missed.now needs.now more.now) result }
 {
     let mut best = None;
     for &clause in missed {

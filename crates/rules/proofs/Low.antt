@@ -195,26 +195,34 @@ same_change : {touched : Touched} {t u : State} → Agree touched t u → (kind 
 same_change w kind k i f key =
     (low_change (λ _. true) (λ _ _. Unit {0}) tt (record { records = λ j. low_weaker (w.records j); tasks = λ j. low_weaker (w.tasks j) }) (λ _ _ _ _. tt) kind i f key k (λ _ _ e. absurd (true≢false e))).answer
 
-low_step : {touched : Touched} → Lawful touched → {t u : State} (x : Twin (Touching touched)) → (w : Low touched t u) → Settled touched t u (left x) → TwoRuled (Low touched) (Answered touched (left x)) (step t (left x)) (step u (right x))
-low_step {touched} o x w =
+-- what two calls leave and answer that were made of such states
+abbrev pub LowRuled : Touched → (Told → Told → Type 0) → Ruled → Ruled → Type 0
+LowRuled touched = TwoRuled (Low touched)
+
+low_two : {touched : Touched} → Lawful touched → {t u : State} (x : Twin (Touching touched)) → (w : Low touched t u) → Settled touched t u (left x) → LowRuled touched (Answered touched (left x)) (step t (left x)) (step u (right x))
+low_two {touched} o x w =
     two_step touched o (Low touched) w (low_agree w) (λ i s r a. record { records = low_set w.records i a; tasks = w.tasks }) (λ k s r a. record { records = w.records; tasks = low_set w.tasks k a }) x
 
-low_answer : {touched : Touched} → Lawful touched → {t u : State} (x : Twin (Touching touched)) → Low touched t u → Answered touched (left x) (answer t (left x)) (answer u (right x))
-low_answer {touched} o (same (Enter i p n l)) w = (low_step o (same (Enter i p n l)) w tt).answer
-low_answer {touched} o (same (Open k p)) w = (low_step o (same (Open k p)) w tt).answer
-low_answer {touched} o (same (Close k)) w = (low_step o (same (Close k)) w tt).answer
-low_answer {touched} o (same (Take k i m)) w = (low_step o (same (Take k i m)) w tt).answer
-low_answer {touched} o (same (Put k i)) w = (low_step o (same (Put k i)) w tt).answer
-low_answer {touched} o (same (Drop k i)) w = (low_step o (same (Drop k i)) w tt).answer
-low_answer {touched} o (same (Show i g)) w = (low_step o (same (Show i g)) w tt).answer
+-- one call
+pub low_step : {touched : Touched} → Lawful touched → {t u : State} (x : Twin (Touching touched)) → Low touched t u → Settled touched t u (left x) → Low touched (after t (left x)) (after u (right x))
+low_step o x w h = (low_two o x w h).state
+
+pub low_answer : {touched : Touched} → Lawful touched → {t u : State} (x : Twin (Touching touched)) → Low touched t u → Answered touched (left x) (answer t (left x)) (answer u (right x))
+low_answer {touched} o (same (Enter i p n l)) w = (low_two o (same (Enter i p n l)) w tt).answer
+low_answer {touched} o (same (Open k p)) w = (low_two o (same (Open k p)) w tt).answer
+low_answer {touched} o (same (Close k)) w = (low_two o (same (Close k)) w tt).answer
+low_answer {touched} o (same (Take k i m)) w = (low_two o (same (Take k i m)) w tt).answer
+low_answer {touched} o (same (Put k i)) w = (low_two o (same (Put k i)) w tt).answer
+low_answer {touched} o (same (Drop k i)) w = (low_two o (same (Drop k i)) w tt).answer
+low_answer {touched} o (same (Show i g)) w = (low_two o (same (Show i g)) w tt).answer
 low_answer {touched} o {t} (same (Change kind k i f key)) w =
     subst (Answered touched (Change kind k i f key) (answer t (Change kind k i f key))) (same_change (low_agree w) kind k i f key) (equal _ _)
-low_answer {touched} o (figures i p n n' l d a b) w = (low_step o (figures i p n n' l d a b) w tt).answer
+low_answer {touched} o (figures i p n n' l d a b) w = (low_two o (figures i p n n' l d a b) w tt).answer
 
 -- all calls
 low_run : {touched : Touched} → Lawful touched → (xs : List (Twin (Touching touched))) (t u : State) → Low touched t u → AllSettled touched t u xs → Low touched (run t (lefts xs)) (run u (rights xs))
 low_run o [] t u w h = w
-low_run o (x ∷ xs) t u w h = low_run o xs (after t (left x)) (after u (right x)) (low_step o x w h.0).state h.1
+low_run o (x ∷ xs) t u w h = low_run o xs (after t (left x)) (after u (right x)) (low_step o x w h.0) h.1
 
 pub tracking : Tracking
 tracking touched o xs h =

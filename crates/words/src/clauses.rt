@@ -5,6 +5,7 @@ ghost use Rattle.std.specs.Prelude.{IsSome};
 ghost use Rattle.words.specs.Parted.{parted};
 ghost use Rattle.words.specs.Clauses.{hex_all};
 
+pub use read::read_formula;
 pub use word::formula_word;
 
 /// The part of a line where clauses stand, joined by full stops.

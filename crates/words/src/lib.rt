@@ -7,7 +7,7 @@ mod hex;
 mod mode;
 mod parting;
 
-pub use clauses::{ClausesWord, FormulaWord, formula_word};
+pub use clauses::{ClausesWord, FormulaWord, formula_word, read_formula};
 pub use decimal::number;
 pub use hex::hex_four;
 pub use mode::mode_word;

@@ -1,4 +1,5 @@
 ghost use Rattle.std.specs.Prelude.{◌≡◌, ◌≤◌, ◌++◌, take, is_ok, if◌then◌else◌, vec_len};
+ghost use Rattle.memchr.specs.Find.{IsFirstByte, is_byte};
 
 use memchr::memchr;
 use std::alloc::AllocError;
@@ -7,6 +8,13 @@ use std::io::{BufRead, ErrorKind};
 
 /// As much of a line as is kept: one byte past the longest that can be a call.
 const KEPT: usize = 4097;
+
+/// Where the first line end stands in these bytes, if one does.
+fn line_end(bytes: &[u8]) -> Option<usize>
+    ensures { IsFirstByte (is_byte 10) bytes.now result }
+{
+    memchr(b'\n', bytes)
+}
 
 /// Adds a part of a line, as far as it is kept.
 fn add_part(line: &mut Vec<u8>, part: &[u8]) -> Result<(), AllocError>
@@ -35,7 +43,7 @@ pub fn next_line<R: BufRead>(input: &mut R, line: &mut Vec<u8>) -> io::Result<bo
         if held.is_empty() {
             return Ok(!line.is_empty());
         }
-        match memchr(b'\n', held) {
+        match line_end(held) {
             Some(end) => {
                 add_part(line, &held[..end])?;
                 input.consume(end + 1);

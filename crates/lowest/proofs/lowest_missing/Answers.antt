@@ -15,5 +15,8 @@ returns c =
     let needs = c.args.needs.now in
     let more = c.args.more.now in
     let best = c.loop-clause.best in
-    first_is (λ g. (met needs g && met more g) && not (met missed g)) (Missing missed needs more) (missing_decides missed needs more) best
-    (missing_all missed needs more c.loop-clause.clause-index (omega arith) best c.loop-clause.invariant)
+    let found = missing_all missed needs more c.loop-clause.clause-index (omega arith) best c.loop-clause.invariant in
+    record {
+      answer = first_is (λ g. (met needs g && met more g) && not (met missed g)) (Missing missed needs more) (missing_decides missed needs more) best found;
+      first = found;
+    }

@@ -25,6 +25,13 @@ impl ClausesWord<'_> {
 }
 
 /// The formula that a word writes, reduced to its kept form.
+pub fn read_formula(word: FormulaWord<'_>) -> Result<Formula, Refusal>
+    ensures { says clauses_of result ≡ reduces (written word.entry) }
+{
+    Formula::try_from(word)
+}
+
+/// The same, as a conversion.
 impl TryFrom<FormulaWord<'_>> for Formula {
     type Error = Refusal;
 
