@@ -1,18 +1,17 @@
 -- Formulas from bytes compared.
-use Rattle.std.proofs.Common.{◌≡◌, ℕ, Bool, true, false, cond, leb, List, [], length, Decides, Ok, Err, Result, MatchResult, refl, sym, ap, ◌∙◌, subst, inl, inr, true≢false}
+use Rattle.std.proofs.Common.{◌≡◌, ℕ, Bool, true, false, cond, leb, List, [], length, Decides, sym, ap, ◌∙◌, subst, inl, inr, true≢false, arith}
 use Rattle.std.proofs.lemmas.Bool.{cases_cond}
-use Rattle.answer.specs.declared.Refusal.{Refusal}
-use Rattle.answer.specs.Told.{Told, granted, refused, says}
+use Rattle.answer.specs.Told.{Told, granted, refused}
 use Rattle.clause.specs.Meaning.{Meets, Implies, Alike}
 use Rattle.clause.specs.Groups.{met, within}
 use Rattle.clause.specs.Reduced.{reduced}
 use Rattle.clause.proofs.Reduced.{alike_reduced}
 use Rattle.clause.proofs.Tests.{met_decides, within_is}
 use Rattle.formula.specs.Forms.{fits, fitting, reduces}
-use Rattle.exports.specs.Comparing.{clauses_from, evenly, formula_from, no, yes, first, second, on_formula, compared, ByGroups}
-use Rattle.exports.specs.declared.compare.Unread.{Unread}
-use Rattle.formula.specs.declared.kept.Formula.{Formula}
-use Rattle.formula.specs.Of.{clauses_of}
+use Rattle.exports.specs.Comparing.{clauses_from, evenly, formula_from, no, yes, first, second, on_formula, compared}
+
+never : (f vs : List ℕ) (q : ℕ) → granted f ≡ refused q vs → ⊥
+never f vs q e = let z : ◌≡◌ {A = ℕ} 0 1 = cc in omega arith
 
 -- a formula that was granted is the reduced list
 is_reduced : (a f : List ℕ) → granted f ≡ formula_from a → f ≡ reduced (clauses_from a)
@@ -22,24 +21,15 @@ is_reduced a f e =
       | inl p ↦ elim (cases_cond (leb (length l) 64) (fitting (reduced l)) (refused 1 []) (granted f) p) [
         | inl q ↦ elim (cases_cond (fits (reduced l)) (granted (reduced l)) (refused 2 []) (granted f) q) [
           | inl r ↦ cc
-          | inr r ↦ absurd cc
+          | inr r ↦ absurd (never f [] 2 r)
         ]
-        | inr q ↦ absurd cc
+        | inr q ↦ absurd (never f [] 1 q)
       ]
-      | inr p ↦ absurd cc
+      | inr p ↦ absurd (never f [] 19 p)
     ]
 
 alike : (a f : List ℕ) → granted f ≡ formula_from a → Alike (clauses_from a) f
 alike a f e = subst (Alike (clauses_from a)) (sym (is_reduced a f e)) (alike_reduced (clauses_from a))
-
-by_groups : (a b : List ℕ) (r : Bool) → (r ≡ true → Implies (clauses_from a) (clauses_from b)) → (r ≡ false → Implies (clauses_from a) (clauses_from b) → ⊥) → ByGroups a b (cond r yes no)
-by_groups a b true y n = y refl
-by_groups a b false y n = n refl
-
--- a formula that was handed on with another error type beside it
-pub kept_from : (read : Result Formula Refusal) (f : Formula) (a : List ℕ) {P : Refusal → Type 0} → MatchResult read (λ x. let kept : Result Formula Unread = Ok f in kept ≡ Ok x) P → ((e : Refusal) → P e → ⊥) → says clauses_of read ≡ formula_from a → granted (clauses_of f) ≡ formula_from a
-kept_from (Ok x) f a same other s = let e : f ≡ x = cc in rw e s
-kept_from (Err e) f a same other s = absurd (other e same)
 
 module _ (a b f g : List ℕ) (ha : granted f ≡ formula_from a) (hb : granted g ≡ formula_from b) (r : Bool) (d : Decides r (Implies f g)) where
   pub told : cond r yes no ≡ compared a b
@@ -48,11 +38,8 @@ module _ (a b f g : List ℕ) (ha : granted f ≡ formula_from a) (hb : granted 
       ∙ (ap (λ (t : Told). on_formula second t (λ g. cond (within (met f) (met g)) yes no)) hb
       ∙ ap (λ (t : Told). on_formula first t (λ f. on_formula second (formula_from b) (λ g. cond (within (met f) (met g)) yes no))) ha)
 
-  implied : r ≡ true → Implies (clauses_from a) (clauses_from b)
+  pub implied : r ≡ true → Implies (clauses_from a) (clauses_from b)
   implied e n l m = (alike b g hb).1 n l (d.0 e n l ((alike a f ha).0 n l m))
 
-  unimplied : r ≡ false → Implies (clauses_from a) (clauses_from b) → ⊥
+  pub unimplied : r ≡ false → Implies (clauses_from a) (clauses_from b) → ⊥
   unimplied e h = true≢false (sym (d.1 (λ n l m. (alike b g hb).0 n l (h n l ((alike a f ha).1 n l m)))) ∙ e)
-
-  pub meant : ByGroups a b (cond r yes no)
-  meant = by_groups a b r implied unimplied

@@ -1,12 +1,12 @@
 -- Two lists of clauses in bytes, compared.
-use Rattle.std.specs.Prelude.{◌≡◌, ℕ, ◌+◌, ◌*◌, ◌%◌, Bool, cond, List, [], ◌∷◌, length, ◌==◌, Ok, Err, Result}
+use Rattle.std.specs.Prelude.{◌≡◌, ℕ, ◌+◌, ◌*◌, ◌%◌, Bool, cond, List, [], ◌∷◌, length, ◌==◌}
 use Rattle.answer.specs.Told.{Told, granted, refused}
 use Rattle.clause.specs.Meaning.{Implies}
 use Rattle.clause.specs.Groups.{met, within}
 use Rattle.formula.specs.Forms.{reduces}
 use Rattle.docket.specs.Reading.{number_of}
-use Rattle.exports.specs.declared.compare.Unread.{Unread}
-use Rattle.exports.specs.declared.compare.Unread.TheVariants.{First, Second}
+use Rattle.exports.specs.declared.compare.Outcome.{Outcome}
+use Rattle.exports.specs.declared.compare.Outcome.TheVariants.{No, Yes, First, Second}
 
 -- the clauses, two bytes each, high byte first
 abbrev pub clauses_from : List ℕ → List ℕ
@@ -45,10 +45,11 @@ code_of yes = 1
 code_of (first q) = 100 + q
 code_of (second q) = 200 + q
 
-abbrev pub outcome_of : Result Bool Unread → Compared
-outcome_of (Ok b) = cond b yes no
-outcome_of (Err (First q)) = first (number_of q)
-outcome_of (Err (Second q)) = second (number_of q)
+abbrev pub outcome_of : Outcome → Compared
+outcome_of No = no
+outcome_of Yes = yes
+outcome_of (First q) = first (number_of q)
+outcome_of (Second q) = second (number_of q)
 
 -- what each outcome says of the lists as they came: of the groups that meet them, or of the question
 abbrev pub ByGroups : List ℕ → List ℕ → Compared → Type 0

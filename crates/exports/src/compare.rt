@@ -15,31 +15,47 @@ pub fn yard_compare(first: &[u8], second: &[u8]) -> u32
     code(compare(first, second))
 }
 
-/// Which of the two lists is refused, and why.
+/// How a comparison ends.
+// One enum of four cases: with a `Result` of an error of two, lists that are refused took C 1.7 times as long.
 #[derive(Clone, Copy)]
-pub enum Unread {
+pub enum Outcome {
+    No,
+    Yes,
+    /// The first list is refused.
     First(Refusal),
+    /// The second list is refused.
     Second(Refusal),
 }
 
-/// The number that C gets, as it has no enum for a `Result`.
-fn code(outcome: Result<bool, Unread>) -> u32
+/// The number that C gets.
+fn code(outcome: Outcome) -> u32
     ensures { result ≡ code_of (outcome_of outcome) }
 {
     match outcome {
-        Ok(implied) => u32::from(implied),
-        Err(Unread::First(refusal)) => 100 + u32::from(refusal.number()),
-        Err(Unread::Second(refusal)) => 200 + u32::from(refusal.number()),
+        Outcome::No => 0,
+        Outcome::Yes => 1,
+        Outcome::First(refusal) => 100 + u32::from(refusal.number()),
+        Outcome::Second(refusal) => 200 + u32::from(refusal.number()),
     }
 }
 
-fn compare(first: &[u8], second: &[u8]) -> Result<bool, Unread>
+fn compare(first: &[u8], second: &[u8]) -> Outcome
     ensures answer { outcome_of result ≡ compared first.now second.now }
     ensures means { ByGroups first.now second.now (outcome_of result) }
 {
-    let first = formula_from(first).map_err(Unread::First)?;
-    let second = formula_from(second).map_err(Unread::Second)?;
-    Ok(first.implies(second))
+    let a = match formula_from(first) {
+        Ok(formula) => formula,
+        Err(refusal) => return Outcome::First(refusal),
+    };
+    let b = match formula_from(second) {
+        Ok(formula) => formula,
+        Err(refusal) => return Outcome::Second(refusal),
+    };
+    if a.implies(b) {
+        Outcome::Yes
+    } else {
+        Outcome::No
+    }
 }
 
 /// The kept form of a list of clauses in bytes.

@@ -16,7 +16,7 @@ use Rattle.monitor.specs.Fetch.{Fetched, Sound}
 use Rattle.docket.specs.declared.entry.Entry.{Entry}
 use Rattle.docket.specs.Entries.{plain_of}
 use Rattle.docket.specs.Reading.{entry, over, refusal}
-use Rattle.exports.specs.declared.compare.Unread.TheVariants.{First, Second}
+use Rattle.exports.specs.declared.compare.Outcome.TheVariants.{No, Yes, First, Second}
 use Rattle.exports.specs.declared.entry.YardEntry.{YardEntry}
 use Rattle.exports.specs.Comparing.{clauses_from, evenly, formula_from, no, yes, first, second, compared, code_of, outcome_of, ByGroups}
 use Rattle.exports.specs.Entries.{read_code, or_zero, group_in, padded, filled, left}
@@ -92,10 +92,10 @@ pub record ForC : Type 0 where
   pub second_odd : code_of (compared bytes_one odd) ≡ 219
   pub second_large : code_of (compared bytes_one bytes_nine) ≡ 202
   pub first_long : code_of (compared (replicate 130 1) bytes_one) ≡ 101
-  pub outcome_no : outcome_of (Ok false) ≡ no
-  pub outcome_yes : outcome_of (Ok true) ≡ yes
-  pub outcome_first : outcome_of (Err (First LongList)) ≡ first 1
-  pub outcome_second : outcome_of (Err (Second LargeFormula)) ≡ second 2
+  pub outcome_no : outcome_of No ≡ no
+  pub outcome_yes : outcome_of Yes ≡ yes
+  pub outcome_first : outcome_of (First LongList) ≡ first 1
+  pub outcome_second : outcome_of (Second LargeFormula) ≡ second 2
   pub by_groups_yes : ByGroups (0 ∷ 1 ∷ 0 ∷ 2 ∷ []) bytes_one yes
   pub by_groups_not_yes : ByGroups bytes_one (0 ∷ 2 ∷ []) yes → ⊥
   pub by_groups_no : ByGroups bytes_one (0 ∷ 2 ∷ []) no
