@@ -1,10 +1,11 @@
 -- Bits and the bytes that they fill.
-use Rattle.std.proofs.Common.{◌≡◌, ℕ, zero, suc, ◌+◌, ◌*◌, ◌<◌, ◌≤◌, Bool, true, false, cond, eqb, List, [], ◌∷◌, ◌++◌, length, take, drop, sym, refl, ap, ◌∙◌, arith, length-append, length-drop, take-append-drop}
+use Rattle.std.proofs.Common.{◌≡◌, ℕ, zero, suc, ◌+◌, ◌*◌, ◌<◌, ◌≤◌, Bool, true, false, cond, ◌&&◌, eqb, ltb, List, [], ◌∷◌, ◌++◌, length, take, drop, sym, refl, ap, ◌∙◌, arith, length-append, length-drop, take-append-drop}
 use Rattle.std.proofs.ByRecursion.{All-drop}
+use Rattle.std.proofs.lemmas.Bool.{and_parts, eqb-true}
 use Rattle.std.proofs.lemmas.List.{take_at, nil_from_length, append_assoc}
 use Rattle.answer.specs.Told.{Told, granted, refused}
 use Rattle.docket.specs.Bits.{bits, unpack, number, packed}
-use Rattle.docket.specs.Entries.{Plain, brings, words, answer_bits, answer_size, formula_bits, pad_size, head_size, entry_bits, size_of, entry_bytes}
+use Rattle.docket.specs.Entries.{Plain, asked, brings, carries_answer, carries, words, answer_bits, answer_size, formula_bits, pad_size, head_size, entry_bits, size_of, entry_bytes}
 use Rattle.docket.specs.Laws.{Bytes}
 use Rattle.docket.proofs.Rows.{length_bits}
 use Rattle.docket.proofs.Numbers.{Bits, Bits-append, bits_bits, bits_taken, number_bits}
@@ -90,6 +91,18 @@ brings_one q = go (eqb q 16)
     go : (b : Bool) → cond b 1 0 ≤ 1
     go true = omega arith
     go false = omega arith
+
+head_small : (a : Told) → carries_answer a ≡ true → head_size a ≤ 5
+head_small (granted vs) c = omega arith
+head_small (refused q vs) c =
+    omega (arith, eqb-true (length vs) (brings q) (and_parts (asked q) (eqb (length vs) (brings q)) c).1, brings_one q)
+
+-- the longest entry that can be carried
+pub size_most : (e : Plain) → carries e ≡ true → length e.new ≤ 8 → size_of e ≤ 21
+size_most e c few =
+    let f = and_parts (ltb e.task 8) (ltb e.«record» 64 && carries_answer e.answer) c in
+    let g = and_parts (ltb e.«record» 64) (carries_answer e.answer) f.1 in
+    omega (arith, head_small e.answer g.1, few)
 
 pub pad_most : (a : Told) → pad_size a ≤ 4
 pad_most (granted vs) = omega arith

@@ -1,11 +1,10 @@
 -- Entries at their places, and whole dockets.
-use Rattle.std.proofs.Common.{◌≡◌, ℕ, ◌+◌, ◌*◌, ◌<◌, ◌≤◌, true, ◌&&◌, eqb, ltb, List, [], ◌∷◌, ◌++◌, length, take, drop, Ok, Err, sym, refl, ap, ◌∙◌, subst, inl, inr, arith, length-append, length-drop, take-append-drop}
+use Rattle.std.proofs.Common.{◌≡◌, ℕ, ◌+◌, ◌*◌, ◌<◌, ◌≤◌, eqb, ltb, List, [], ◌∷◌, ◌++◌, length, take, drop, Ok, Err, sym, refl, ap, ◌∙◌, subst, inl, inr, arith, length-append, length-drop, take-append-drop}
 use Rattle.std.proofs.ByRecursion.{All-take, All-drop}
 use Rattle.std.proofs.lemmas.List.{append_assoc, append-nil, take_at, drop_at, drop-drop, drop_all, length-take-le}
-use Rattle.std.proofs.lemmas.Bool.{cases_eq, cases_cond, eqb-true, ne_eqb, cond-false, and_parts}
-use Rattle.answer.specs.Told.{Told, granted, refused}
+use Rattle.std.proofs.lemmas.Bool.{cases_eq, cases_cond, ne_eqb, cond-false}
 use Rattle.docket.specs.Bits.{unpack}
-use Rattle.docket.specs.Entries.{Plain, asked, brings, carries_answer, head_size, size_of, entry_bits, entry_bytes}
+use Rattle.docket.specs.Entries.{Plain, size_of, entry_bits, entry_bytes}
 use Rattle.docket.specs.Reading.{Reading, entry, over, refusal, entry_at, placed_at, read_at}
 use Rattle.docket.specs.Laws.{Carried, BytesAreBits, EntryReadsBack, ReadWasWritten, ToldApart, docket_bytes, ReadsOn, DocketReadsBack, DocketWasWritten}
 use Rattle.docket.proofs.Rows.{length_unpack, unpack_append}
@@ -13,19 +12,11 @@ use Rattle.docket.proofs.Numbers.{Bits-unpack}
 use Rattle.docket.proofs.Forth.{kept_small}
 use Rattle.docket.proofs.Taking.{reads_back_bits}
 use Rattle.docket.proofs.Back.{was_written}
-use Rattle.docket.proofs.Packing.{packed_is, length_entry_bits, unpack_entry, length_entry, head_positive, brings_one}
+use Rattle.docket.proofs.Packing.{packed_is, length_entry_bits, unpack_entry, length_entry, head_positive, size_most}
 use Rattle.docket.proofs.Placing.{at_end, at_entry}
 
-head_small : (a : Told) → carries_answer a ≡ true → head_size a ≤ 5
-head_small (granted vs) c = omega arith
-head_small (refused q vs) c =
-    omega (arith, eqb-true (length vs) (brings q) (and_parts (asked q) (eqb (length vs) (brings q)) c).1, brings_one q)
-
 pub longest : (e : Plain) → Carried e → size_of e ≤ 21
-longest e h =
-    let f = and_parts (ltb e.task 8) (ltb e.«record» 64 && carries_answer e.answer) h.fields in
-    let g = and_parts (ltb e.«record» 64) (carries_answer e.answer) f.1 in
-    omega (arith, head_small e.answer g.1, kept_small e.new h.form)
+longest e h = size_most e h.fields (kept_small e.new h.form)
 
 pub bytes_are_bits : BytesAreBits
 bytes_are_bits e = (unpack_entry e, length_entry e, longest e)

@@ -1,5 +1,5 @@
 -- Formulas from bytes compared.
-use Rattle.std.proofs.Common.{◌≡◌, ℕ, Bool, true, false, cond, leb, List, [], length, Decides, sym, ap, ◌∙◌, subst, inl, inr, true≢false, arith}
+use Rattle.std.proofs.Common.{◌≡◌, ℕ, Bool, true, false, cond, leb, List, [], length, Decides, sym, ap, ◌∙◌, subst, inl, inr, true≢false}
 use Rattle.std.proofs.lemmas.Bool.{cases_cond}
 use Rattle.answer.specs.Told.{Told, granted, refused}
 use Rattle.clause.specs.Meaning.{Meets, Implies, Alike}
@@ -10,9 +10,6 @@ use Rattle.clause.proofs.Tests.{met_decides, within_is}
 use Rattle.formula.specs.Forms.{fits, fitting, reduces}
 use Rattle.exports.specs.Comparing.{clauses_from, evenly, formula_from, no, yes, first, second, on_formula, compared}
 
-never : (f vs : List ℕ) (q : ℕ) → granted f ≡ refused q vs → ⊥
-never f vs q e = let z : ◌≡◌ {A = ℕ} 0 1 = cc in omega arith
-
 -- a formula that was granted is the reduced list
 is_reduced : (a f : List ℕ) → granted f ≡ formula_from a → f ≡ reduced (clauses_from a)
 is_reduced a f e =
@@ -21,11 +18,11 @@ is_reduced a f e =
       | inl p ↦ elim (cases_cond (leb (length l) 64) (fitting (reduced l)) (refused 1 []) (granted f) p) [
         | inl q ↦ elim (cases_cond (fits (reduced l)) (granted (reduced l)) (refused 2 []) (granted f) q) [
           | inl r ↦ cc
-          | inr r ↦ absurd (never f [] 2 r)
+          | inr r ↦ absurd cc
         ]
-        | inr q ↦ absurd (never f [] 1 q)
+        | inr q ↦ absurd cc
       ]
-      | inr p ↦ absurd (never f [] 19 p)
+      | inr p ↦ absurd cc
     ]
 
 alike : (a f : List ℕ) → granted f ≡ formula_from a → Alike (clauses_from a) f

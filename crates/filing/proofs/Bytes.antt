@@ -1,35 +1,19 @@
 -- An entry that the docket can carry fits into 21 bytes.
-use Rattle.std.proofs.Common.{◌≡◌, ℕ, ◌+◌, ◌≤◌, true, false, ◌&&◌, eqb, ltb, List, [], ◌∷◌, ◌++◌, length, take, drop, sym, ap, ◌∙◌, inl, inr, arith}
-use Rattle.std.proofs.lemmas.Bool.{and_parts, cases_Bool, cond-true, cond-false, eqb-true, le-leb, cases_eq, eq-eqb, ne_eqb}
+use Rattle.std.proofs.Common.{◌≡◌, ℕ, ◌+◌, ◌≤◌, true, false, List, [], ◌∷◌, ◌++◌, length, take, drop, sym, ap, ◌∙◌, inl, inr, arith}
+use Rattle.std.proofs.lemmas.Bool.{cases_Bool, cond-true, cond-false, le-leb}
 use Rattle.std.proofs.lemmas.List.{take_at}
 use Rattle.answer.specs.declared.Refusal.{Refusal}
 use Rattle.answer.specs.declared.Answer.TheVariants.{Refused}
-use Rattle.answer.specs.Told.{Told, granted, refused, told}
+use Rattle.answer.specs.Told.{granted, told}
 use Rattle.answer.proofs.Telling.{is_granted, never_granted}
-use Rattle.docket.specs.Entries.{Plain, brings, asked, carries_answer, carries, head_size, size_of, entry_bits, entry_bytes}
+use Rattle.docket.specs.Entries.{Plain, carries, size_of, entry_bits, entry_bytes}
 use Rattle.docket.specs.Writing.{room_for, writing, written}
-use Rattle.docket.proofs.Packing.{length_packed}
+use Rattle.docket.proofs.Packing.{length_packed, size_most}
 use Rattle.filing.specs.Filing.{bytes_of}
-
-brings_one : (q : ℕ) → brings q ≤ 1
-brings_one q =
-    elim (cases_eq q 16) [
-      | inl e ↦ omega (arith, cond-true {A = ℕ} (eqb q 16) 1 0 (eq-eqb q 16 e))
-      | inr n ↦ omega (arith, cond-false {A = ℕ} (eqb q 16) 1 0 (ne_eqb q 16 n))
-    ]
-
-head_small : (x : Told) → carries_answer x ≡ true → head_size x ≤ 5
-head_small (granted vs) e = omega arith
-head_small (refused q vs) e =
-    let n = eqb-true (length vs) (brings q) (and_parts (asked q) (eqb (length vs) (brings q)) e).1 in
-    omega (arith, n, brings_one q)
 
 module _ (e : Plain) (few : length e.new ≤ 8) (zs bytes : List ℕ) (room : length zs ≡ 21) (after : bytes ≡ written e 0 zs) where
   small : carries e ≡ true → size_of e ≤ 21
-  small c =
-      let p = (and_parts (ltb e.task 8) (ltb e.«record» 64 && carries_answer e.answer) c).1 in
-      let h = head_small e.answer (and_parts (ltb e.«record» 64) (carries_answer e.answer) p).1 in
-      omega (arith, h, few)
+  small c = size_most e c few
 
   fits : carries e ≡ true → room_for e 0 zs ≡ true
   fits c = le-leb (0 + size_of e) (length zs) (omega (arith, small c, room))
